@@ -1,0 +1,5 @@
+// The definitions of the sheet language: what a sheet is, which bytes are one, and how its rows read.
+
+pub mod decode;
+pub mod refusal;
+pub mod rows;
