@@ -1,1 +1,3 @@
-
+pub mod Acceptance
+pub mod Firsts
+pub mod Layouts
