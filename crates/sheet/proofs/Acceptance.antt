@@ -10,7 +10,7 @@ use Rattle.std.specs.declared.option.Option.the-variants.{Some, None}
 use Rattle.std.specs.declared.result.Result.{Result}
 use Rattle.std.specs.declared.result.Result.the-variants.{Ok, Err}
 use Rattle.sheet.specs.declared.refusal.Refusal.{Refusal}
-use Rattle.sheet.specs.Sections.{Sheet, shapes, shaped, bytes-of}
+use Rattle.sheet.specs.Sections.{Sheet, shapes, bytes, shaped, bytes-of}
 use Rattle.sheet.specs.Tries.{Try, first-fault, Means-first}
 use Rattle.sheet.specs.Accept.{layout-tries, sheet-tries, rows-in, accepted, tries, judged, verdict, accept}
 use Rattle.sheet.specs.Laws.{Names-the-first-fault, Writes-back, Reads-back}
@@ -27,7 +27,7 @@ names-first bs x = named-first bs x (first-fault (tries bs)) (means-first (tries
 
 -- the same of any answer that is such a verdict
 pub names-first-as : {X : Type 0} (bs : List ℕ) (x : X) (r : Result X Refusal) → r ≡ judged x (first-fault (tries bs)) → Names-the-first-fault bs r
-names-first-as {X} bs x r e = let P : Result X Refusal → Type 0 = Names-the-first-fault bs in rw e (names-first bs x)
+names-first-as bs x r e = rw e (names-first bs x)
 
 pub judged-ok : {X : Type 0} (x y : X) (v : Try Refusal) → judged x v ≡ Ok y → (v ≡ None) × (x ≡ y)
 judged-ok x y None e = (refl, cc)
@@ -41,19 +41,19 @@ passes-none None e = refl
 passes-none (Some f) e = absurd (false≢true e)
 
 -- bytes without a fault
-pub no-fault-writes : (bs : List ℕ) → first-fault (tries bs) ≡ None → Writes-back bs (rows-in bs)
-no-fault-writes bs e =
+pub no-fault-writes : (bs : List ℕ) → bytes bs ≡ true → first-fault (tries bs) ≡ None → Writes-back bs (rows-in bs)
+no-fault-writes bs b e =
     let p = first-parts (layout-tries 0 shapes bs) (sheet-tries (rows-in bs)) e in
     record {
       same-bytes = layout-bytes 0 shapes bs (p .0);
-      accepts = and-from (shaped shapes (rows-in bs)) _ (layout-shaped 0 shapes bs (p .0)) (none-passes (first-fault (sheet-tries (rows-in bs))) (p .1));
+      accepts = and-from (shaped shapes (rows-in bs)) _ (layout-shaped 0 shapes bs b (p .0)) (none-passes (first-fault (sheet-tries (rows-in bs))) (p .1));
     }
 
 -- writing what was read gives the same bytes
-pub writes-back : (bs : List ℕ) (s : Sheet) → accept bs ≡ Ok s → Writes-back bs s
-writes-back bs s e =
+pub writes-back : (bs : List ℕ) (s : Sheet) → bytes bs ≡ true → accept bs ≡ Ok s → Writes-back bs s
+writes-back bs s b e =
     let p = judged-ok (rows-in bs) s (first-fault (tries bs)) e in
-    rw (← p .1) (no-fault-writes bs (p .0))
+    rw (← p .1) (no-fault-writes bs b (p .0))
 
 -- reading what was written gives the same sheet
 pub reads-back : (s : Sheet) → accepted s ≡ true → Reads-back s

@@ -9,11 +9,13 @@ use lib.Dec.{eqb, ltb, leb}
 use lib.ListN.{length, getD, take, drop}
 use Rattle.std.proofs.shelf.Lists.{length-append, length-drop, length-take-le, take-append-drop, take-at, drop-at, drop-drop, nil-from-length}
 use Rattle.std.proofs.shelf.Tests.{and-parts, and-from, eqb-true, eq-eqb, leb-true, le-leb, lt-ltb, ltb-true, cases-bool, false≢true}
+use mir.Syntax.{w8}
+use mir.Val.{Fits}
 use Rattle.std.specs.Vectors.{chunked}
 use Rattle.std.specs.declared.option.Option.the-variants.{Some, None}
 use Rattle.sheet.specs.declared.refusal.Reason.the-variants.{EndsEarly, LeftOver, CountNotAllowed}
 use Rattle.sheet.specs.declared.refusal.Refusal.{Refusal}
-use Rattle.sheet.specs.Sections.{Row, Sheet, Shape, wide, fits-shape, shaped, strung, bytes-of}
+use Rattle.sheet.specs.Sections.{Row, Sheet, Shape, bytes, wide, fits-shape, shaped, strung, bytes-of}
 use Rattle.sheet.specs.Tries.{Try, must, or-else, first-fault, each}
 use Rattle.sheet.specs.Accept.{refusal, count-in, span, row-fits, section-tries, layout-tries, sections-in}
 use Rattle.sheet.proofs.Firsts.{no-pass, or-else-parts, first-parts, first-both, each-pass, each-passed}
@@ -32,19 +34,42 @@ one-passed t e = or-else-parts t None e .0
 one-pass : {F : Type 0} (t : Try F) → t ≡ None → first-fault (t ∷ []) ≡ None
 one-pass t e = rw e
 
+-- ---- bytes
+
+pub bytes-take : (n : ℕ) (bs : List ℕ) → bytes bs ≡ true → bytes (take n bs) ≡ true
+bytes-take zero bs h = refl
+bytes-take (suc n) [] h = refl
+bytes-take (suc n) (b ∷ bs) h = let p = and-parts (ltb b 256) (bytes bs) h in and-from (ltb b 256) (bytes (take n bs)) (p .0) (bytes-take n bs (p .1))
+
+pub bytes-drop : (n : ℕ) (bs : List ℕ) → bytes bs ≡ true → bytes (drop n bs) ≡ true
+bytes-drop zero bs h = h
+bytes-drop (suc n) [] h = refl
+bytes-drop (suc n) (b ∷ bs) h = bytes-drop n bs (and-parts (ltb b 256) (bytes bs) h .1)
+
+-- a list of which each place fits a byte
+pub bytes-from : (bs : List ℕ) → ((i : ℕ) → Fits w8 (getD bs i 0)) → bytes bs ≡ true
+bytes-from [] h = refl
+bytes-from (b ∷ bs) h = and-from (ltb b 256) (bytes bs) (lt-ltb b 256 (h 0 .fits)) (bytes-from bs (λ i. h (suc i)))
+
+-- the length of the first row, and the other rows
+wide-parts : (w : ℕ) (r : Row) (rs : List Row) → wide w (r ∷ rs) ≡ true → (length r ≡ w) × (wide w rs ≡ true)
+wide-parts w r rs h =
+    let p = and-parts (eqb (length r) w && bytes r) (wide w rs) h in
+    (eqb-true (length r) w (and-parts (eqb (length r) w) (bytes r) (p .0) .0), p .1)
+
 -- ---- runs of w bytes
 
 pub length-chunked : (w n : ℕ) (bs : List ℕ) → length (chunked w n bs) ≡ n
 length-chunked w zero bs = refl
 length-chunked w (suc n) bs = ap (λ (k : ℕ). suc k) (length-chunked w n (drop w bs))
 
-pub wide-chunked : (w n : ℕ) (bs : List ℕ) → n * w ≤ length bs → wide w (chunked w n bs) ≡ true
-wide-chunked w zero bs l = refl
-wide-chunked w (suc n) bs l =
+pub wide-chunked : (w n : ℕ) (bs : List ℕ) → bytes bs ≡ true → n * w ≤ length bs → wide w (chunked w n bs) ≡ true
+wide-chunked w zero bs b l = refl
+wide-chunked w (suc n) bs b l =
     let m : w + n * w ≡ suc n * w = omega arith in
-    and-from (eqb (length (take w bs)) w) (wide w (chunked w n (drop w bs)))
-    (eq-eqb (length (take w bs)) w (length-take-le w bs (omega (arith, m))))
-    (wide-chunked w n (drop w bs) (omega (arith, m, length-drop w bs)))
+    and-from (eqb (length (take w bs)) w && bytes (take w bs)) (wide w (chunked w n (drop w bs)))
+    (and-from (eqb (length (take w bs)) w) (bytes (take w bs)) (eq-eqb (length (take w bs)) w (length-take-le w bs (omega (arith, m)))) (bytes-take w bs b))
+    (wide-chunked w n (drop w bs) (bytes-drop w bs b) (omega (arith, m, length-drop w bs)))
 
 pub strung-chunked : (w n : ℕ) (bs : List ℕ) → strung (chunked w n bs) ++ drop (n * w) bs ≡ bs
 strung-chunked w zero bs = ap (λ k. drop k bs) (zero-mul w)
@@ -58,8 +83,8 @@ strung-chunked w (suc n) bs =
 pub chunked-strung : (w : ℕ) (rs : List Row) (bs : List ℕ) → wide w rs ≡ true → chunked w (length rs) (strung rs ++ bs) ≡ rs
 chunked-strung w [] bs h = refl
 chunked-strung w (r ∷ rs) bs h =
-    let p = and-parts (eqb (length r) w) (wide w rs) h in
-    let n = eqb-true (length r) w (p .0) in
+    let p = wide-parts w r rs h in
+    let n = p .0 in
     let whole = append-assoc r (strung rs) bs in
     let front : take w (r ++ strung rs ++ bs) ≡ r = ap (take w) whole ∙ take-at r (strung rs ++ bs) w n in
     let back : drop w (r ++ strung rs ++ bs) ≡ strung rs ++ bs = ap (drop w) whole ∙ drop-at r (strung rs ++ bs) w n in
@@ -68,9 +93,9 @@ chunked-strung w (r ∷ rs) bs h =
 pub length-strung : (w : ℕ) (rs : List Row) → wide w rs ≡ true → length (strung rs) ≡ length rs * w
 length-strung w [] h = sym (zero-mul w)
 length-strung w (r ∷ rs) h =
-    let p = and-parts (eqb (length r) w) (wide w rs) h in
+    let p = wide-parts w r rs h in
     let m : suc (length rs) * w ≡ w + length rs * w = omega arith in
-    length-append r (strung rs) ∙ (λ i. eqb-true (length r) w (p .0) i + length-strung w rs (p .1) i) ∙ sym m
+    length-append r (strung rs) ∙ (λ i. (p .0) i + length-strung w rs (p .1) i) ∙ sym m
 
 -- ---- one section
 
@@ -122,15 +147,15 @@ layout-bytes s (h ∷ hs) (c ∷ cs) e =
     ∙ ap (λ l. c ∷ l) (strung-chunked (h .width) c cs)
 
 -- and those sections have the shapes
-pub layout-shaped : (s : ℕ) (hs : List Shape) (bs : List ℕ) → first-fault (layout-tries s hs bs) ≡ None → shaped hs (sections-in hs bs) ≡ true
-layout-shaped s [] bs e = refl
-layout-shaped s (h ∷ hs) bs e =
+pub layout-shaped : (s : ℕ) (hs : List Shape) (bs : List ℕ) → bytes bs ≡ true → first-fault (layout-tries s hs bs) ≡ None → shaped hs (sections-in hs bs) ≡ true
+layout-shaped s [] bs b e = refl
+layout-shaped s (h ∷ hs) bs b e =
     let p = first-parts (section-tries s h bs) (layout-tries (s + 1) hs (drop (span h bs) bs)) e in
     let l = section-laid s h bs (p .0) in
     let n = length-chunked (h .width) (count-in bs) (drop 1 bs) in
     let f = and-parts (leb (h .least) (count-in bs)) (leb (count-in bs) (h .most)) (l .few) in
-    let w : wide (h .width) (chunked (h .width) (count-in bs) (drop 1 bs)) ≡ true = wide-chunked (h .width) (count-in bs) (drop 1 bs) (omega (arith, l .whole, length-drop 1 bs)) in
-    rw (n, f .0, f .1, w) (layout-shaped (s + 1) hs (drop (span h bs) bs) (p .1))
+    let w : wide (h .width) (chunked (h .width) (count-in bs) (drop 1 bs)) ≡ true = wide-chunked (h .width) (count-in bs) (drop 1 bs) (bytes-drop 1 bs b) (omega (arith, l .whole, length-drop 1 bs)) in
+    rw (n, f .0, f .1, w) (layout-shaped (s + 1) hs (drop (span h bs) bs) (bytes-drop (span h bs) bs b) (p .1))
 
 module _ (h : Shape) (rs : List Row) (t : Sheet) (f : fits-shape h rs ≡ true) where
   -- the parts of a section's shape

@@ -2,7 +2,7 @@
 use Prim.Native.Nat.{ℕ, _+_, _*_}
 use mathlib.Core.Bool.{Bool, true, false, _&&_}
 use mathlib.Core.List.{List, [], _∷_, _++_}
-use lib.Dec.{eqb, leb}
+use lib.Dec.{eqb, ltb, leb}
 use lib.ListN.{length, getD}
 
 abbrev pub Row : Type 0
@@ -57,10 +57,15 @@ shape w l m = record { width = w; least = l; most = m }
 abbrev pub shapes : List Shape
 shapes = shape 2 1 16 ∷ shape 8 0 64 ∷ shape 2 0 64 ∷ shape 4 0 128 ∷ shape 4 0 64 ∷ shape 5 0 64 ∷ shape 5 0 64 ∷ shape 3 0 128 ∷ shape 1 0 16 ∷ []
 
+-- each number is a byte
+abbrev pub bytes : List ℕ → Bool
+bytes [] = true
+bytes (b ∷ bs) = ltb b 256 && bytes bs
+
 -- each row has w bytes
 abbrev pub wide : ℕ → List Row → Bool
 wide w [] = true
-wide w (r ∷ rs) = eqb (length r) w && wide w rs
+wide w (r ∷ rs) = (eqb (length r) w && bytes r) && wide w rs
 
 abbrev pub fits-shape : Shape → List Row → Bool
 fits-shape h rs = leb (h .least) (length rs) && (leb (length rs) (h .most) && wide (h .width) rs)

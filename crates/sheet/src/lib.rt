@@ -3,3 +3,4 @@
 pub mod decode;
 pub mod refusal;
 pub mod rows;
+pub mod sizes;
