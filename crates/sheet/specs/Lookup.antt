@@ -11,11 +11,9 @@ use Rattle.sheet.specs.declared.rows.Component.{Component}
 use Rattle.sheet.specs.declared.rows.Element.{Element}
 use Rattle.sheet.specs.declared.rows.Event.{Event}
 use Rattle.sheet.specs.declared.rows.Node.{Node}
-use Rattle.sheet.specs.declared.rows.Flow.{Flow}
 use Rattle.sheet.specs.declared.rows.Transition.{Transition}
-use Rattle.sheet.specs.declared.rows.Setting.{Setting}
-use Rattle.sheet.specs.Sections.{Row, Sheet, rows, components, elements, events, nodes, flows, transitions, settings}
-use Rattle.sheet.specs.Typed.{component-entry, element-entry, event-entry, node-entry, flow-entry, transition-entry, setting-entry}
+use Rattle.sheet.specs.Sections.{Row, Sheet, rows, components, elements, events, nodes, transitions}
+use Rattle.sheet.specs.Typed.{component-entry, element-entry, event-entry, node-entry, transition-entry}
 
 -- what a row holds, if anything
 abbrev pub held : {X : Type 0} → Entry X → Option X
@@ -44,14 +42,8 @@ event-at s i = there event-entry (rows s events) i
 abbrev pub node-at : Sheet → ℕ → Option Node
 node-at s i = there node-entry (rows s nodes) i
 
-abbrev pub flow-at : Sheet → ℕ → Option Flow
-flow-at s i = there flow-entry (rows s flows) i
-
 abbrev pub transition-at : Sheet → ℕ → Option Transition
 transition-at s i = there transition-entry (rows s transitions) i
-
-abbrev pub setting-at : Sheet → ℕ → Option Setting
-setting-at s i = there setting-entry (rows s settings) i
 
 -- it is there, and the test is passed
 abbrev pub is : {X : Type 0} → Option X → (X → Bool) → Bool

@@ -8,6 +8,7 @@ use lib.Dec.{eqb, ltb, leb}
 use Rattle.std.specs.Options.{isSome}
 use Rattle.std.specs.declared.option.Option.{Option}
 use Rattle.std.specs.declared.option.Option.the-variants.{Some, None}
+use Rattle.sheet.specs.declared.rows.Entry.{Entry}
 use Rattle.sheet.specs.declared.rows.Component.{Component}
 use Rattle.sheet.specs.declared.rows.Kind.{Kind}
 use Rattle.sheet.specs.declared.rows.Kind.the-variants.{Held, Port}
@@ -23,8 +24,9 @@ use Rattle.sheet.specs.declared.rows.Transition.{Transition}
 use Rattle.sheet.specs.declared.rows.Setting.{Setting}
 use Rattle.sheet.specs.declared.rows.Question.{Question}
 use Rattle.sheet.specs.declared.rows.Target.the-variants.{ElementFrom, AnyMode}
-use Rattle.sheet.specs.Sections.{Sheet}
-use Rattle.sheet.specs.Lookup.{component-at, element-at, event-at, node-at, flow-at, transition-at, setting-at, is}
+use Rattle.sheet.specs.Sections.{Row, Sheet, rows, flows, settings}
+use Rattle.sheet.specs.Typed.{flow-entry, setting-entry}
+use Rattle.sheet.specs.Lookup.{there, component-at, element-at, event-at, node-at, transition-at, is}
 use Rattle.sheet.specs.Resting.{rests}
 
 -- The three tests of a row.
@@ -86,6 +88,10 @@ abbrev pub any-below : ℕ → (ℕ → Bool) → Bool
 any-below zero p = false
 any-below (suc n) p = any-below n p || p n
 
+-- row i of a section, which holds x, clashes with no earlier row
+abbrev pub clear-of-earlier : {X : Type 0} → (Row → Entry X) → (earlier-clash : X → X → Bool) → List Row → ℕ → X → Bool
+clear-of-earlier entry clash rs i x = not (any-below i (λ j. is (there entry rs j) (λ y. clash y x)))
+
 -- ---- the rules, section by section
 
 abbrev pub component-checks : Sheet → ℕ → Component → Checks
@@ -133,7 +139,7 @@ abbrev pub flow-checks : Sheet → ℕ → Flow → Checks
 flow-checks s i x =
     record {
       names = is (element-at s (x .port)) (λ p. is-port p && has-modes s (p .component) (x .modes)) && value-node s (x .node);
-      free = not (any-below i (λ j. is (flow-at s j) (λ y. flows-clash y x)));
+      free = clear-of-earlier flow-entry flows-clash (rows s flows) i x;
       low = not (rests s (ElementFrom (x .port)) (x .node));
     }
 
@@ -174,7 +180,7 @@ abbrev pub setting-checks : Sheet → ℕ → Setting → Checks
 setting-checks s i x =
     record {
       names = settable (transition-at s (x .transition)) (element-at s (x .element)) && value-node s (x .node);
-      free = not (any-below i (λ j. is (setting-at s j) (λ y. settings-clash y x)));
+      free = clear-of-earlier setting-entry settings-clash (rows s settings) i x;
       low = true;
     }
 
