@@ -33,6 +33,10 @@ pub judged-ok : {X : Type 0} (x y : X) (v : Try Refusal) → judged x v ≡ Ok y
 judged-ok x y None e = (refl, cc)
 judged-ok x y (Some f) e = absurd (let z : _≡_ {A = ℕ} 0 1 = cc in omega arith)
 
+pub judged-err : {X : Type 0} (x : X) (v : Try Refusal) (f : Refusal) → judged x v ≡ Err f → v ≡ Some f
+judged-err x None f e = absurd (let z : _≡_ {A = ℕ} 0 1 = cc in omega arith)
+judged-err x (Some g) f e = cc
+
 none-passes : (v : Try Refusal) → v ≡ None → not (isSome v) ≡ true
 none-passes v e = rw e
 

@@ -9,16 +9,12 @@ use Rattle.sheet.specs.declared.refusal.Refusal.{Refusal}
 use Rattle.sheet.specs.Sections.{Sheet, shapes}
 use Rattle.sheet.specs.Tries.{Try, first-fault}
 use Rattle.sheet.specs.Accept.{layout-tries, rows-in, judged}
-use Rattle.sheet.proofs.Acceptance.{judged-ok}
+use Rattle.sheet.proofs.Acceptance.{judged-ok, judged-err}
 use Rattle.layout.specs.declared.rows.Layout.{Layout}
 use Rattle.layout.specs.Laid.{rows-of, Lays-out}
 use Rattle.layout.specs.Sections.{sections, Tells}
 use Rattle.layout.proofs.Cuts.{sections-are}
 use Rattle.layout.proofs.lay_out.Needs as need
-
-judged-err : (t : Sheet) (v : Try Refusal) (f : Refusal) → judged t v ≡ Err f → v ≡ Some f
-judged-err t None f e = absurd (let z : _≡_ {A = ℕ} 0 1 = cc in omega arith)
-judged-err t (Some g) f e = cc
 
 lays-out : (bs : List ℕ) (r : Result Layout Refusal) → Tells rows-of (sections 0 shapes bs) r → Lays-out bs r
 lays-out bs (Ok l) e =
