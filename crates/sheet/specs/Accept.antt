@@ -86,7 +86,7 @@ abbrev pub rows-tries : {X : Type 0} → (section : ℕ) → (Row → Entry X) �
 rows-tries s entry checks rs = each (length rs) (λ i. entry-tries s i (checks i) (entry (getD rs i [])))
 
 -- The tries of all rows, in the order of the sections.
-abbrev pub sheet-tries : Sheet → List (Try Refusal)
+unfoldable pub sheet-tries : Sheet → List (Try Refusal)
 sheet-tries s =
     rows-tries components component-entry (component-checks s) (rows s components)
     ++ (rows-tries elements element-entry (element-checks s) (rows s elements)

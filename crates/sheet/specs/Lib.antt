@@ -1,4 +1,5 @@
 pub mod Accept
+pub mod Cells
 pub mod Laws
 pub mod Lookup
 pub mod Resting

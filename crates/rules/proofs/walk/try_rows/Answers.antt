@@ -21,7 +21,7 @@ one-more : (ts us : List (Try Refusal)) (v : Verdict) → judged tt (first-fault
 one-more ts us v e = ap (judged tt) (first-append ts us) ∙ joined (first-fault ts) (first-fault us) ∙ ap (and-then (judged tt (first-fault ts))) e
 
 walked-is : (s : Sheet) → judged tt (first-fault (sheet-tries s)) ≡ walked s
-unfolding section-verdict
+unfolding section-verdict sheet-tries
 walked-is s =
     one-more (rows-tries components component-entry (component-checks s) (rows s components)) _ _
     (one-more (rows-tries elements element-entry (element-checks s) (rows s elements)) _ _
