@@ -1,4 +1,6 @@
 pub mod Acceptance
 pub mod Firsts
+pub mod Joins
 pub mod Layouts
 pub mod Lookups
+pub mod Shapes

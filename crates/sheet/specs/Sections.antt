@@ -1,9 +1,10 @@
 -- Rows, sections and sheets as lists of bytes, and the table of the nine sections.
-use Prim.Native.Nat.{ℕ, _+_, _*_}
+use Prim.Native.Nat.{ℕ}
 use mathlib.Core.Bool.{Bool, true, false, _&&_}
-use mathlib.Core.List.{List, [], _∷_, _++_}
+use mathlib.Core.List.{List, [], _∷_}
 use lib.Dec.{eqb, ltb, leb}
 use lib.ListN.{length, getD}
+use Rattle.std.specs.shelf.Lists.{joined}
 
 abbrev pub Row : Type 0
 Row = List ℕ
@@ -79,10 +80,16 @@ shaped (h ∷ hs) (rs ∷ s) = fits-shape h rs && shaped hs s
 
 -- rows one after the other
 abbrev pub strung : List Row → List ℕ
-strung [] = []
-strung (r ∷ rs) = r ++ strung rs
+strung rs = joined (λ r. r) rs
 
--- The bytes of a sheet: of each section its number of rows, then its rows.
+-- the bytes of a section: its number of rows, then its rows
+abbrev pub section-bytes : List Row → List ℕ
+section-bytes rs = length rs ∷ strung rs
+
+-- The bytes of a sheet: those of its sections.
 abbrev pub bytes-of : Sheet → List ℕ
-bytes-of [] = []
-bytes-of (rs ∷ s) = length rs ∷ (strung rs ++ bytes-of s)
+bytes-of s = joined section-bytes s
+
+-- the bytes of a row of a section
+abbrev pub width-of : ℕ → ℕ
+width-of k = getD shapes k (shape 0 0 0) .width

@@ -1,0 +1,5 @@
+// Sheets written to the front of a buffer.
+
+pub mod fault;
+mod put;
+pub mod write;
