@@ -6,8 +6,16 @@ ghost use mathlib.Core.Path.{_≡_};
 ghost use lib.ListN.{getD};
 ghost use Rattle.std.specs.shelf.Maps.{nth};
 ghost use Rattle.sheet.specs.Cells.{count-of, byte-of};
+ghost use Rattle.sheet.specs.Lookup.{component-at, question-at};
 ghost use Rattle.reader.specs.Means.{rows-held};
 use crate::accepted::AcceptedSheet;
+use sheet::decode::ComponentFromRow;
+use sheet::decode::QuestionFromRow;
+use sheet::decode::row_at;
+use sheet::rows::Component;
+use sheet::rows::Question;
+use sheet::sizes::COMPONENT_BYTES;
+use sheet::sizes::QUESTION_BYTES;
 
 // One byte of a row, or nothing where there is none.
 fn cell<const N: usize>(rows: &[[u8; N]], row: usize, place: usize) -> Option<u8>
@@ -40,6 +48,20 @@ impl AcceptedSheet {
             8 => Some(self.questions.len()),
             _ => None,
         }
+    }
+
+    // What a row of the components holds, or nothing where there is none.
+    pub fn component(&self, row: usize) -> Option<Component>
+        ensures { λ r. ⌜ r ≡ component-at (rows-held (now (self .entry))) row ⌝ }
+    {
+        row_at::<COMPONENT_BYTES, Component>(&self.components, row)
+    }
+
+    // What a row of the questions holds, or nothing where there is none or it is blank.
+    pub fn question(&self, row: usize) -> Option<Question>
+        ensures { λ r. ⌜ r ≡ question-at (rows-held (now (self .entry))) row ⌝ }
+    {
+        row_at::<QUESTION_BYTES, Question>(&self.questions, row)
     }
 
     // One byte of a row, or nothing where there is none.

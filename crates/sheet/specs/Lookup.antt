@@ -12,8 +12,9 @@ use Rattle.sheet.specs.declared.rows.Element.{Element}
 use Rattle.sheet.specs.declared.rows.Event.{Event}
 use Rattle.sheet.specs.declared.rows.Node.{Node}
 use Rattle.sheet.specs.declared.rows.Transition.{Transition}
-use Rattle.sheet.specs.Sections.{Row, Sheet, rows, components, elements, events, nodes, transitions}
-use Rattle.sheet.specs.Typed.{component-entry, element-entry, event-entry, node-entry, transition-entry}
+use Rattle.sheet.specs.declared.rows.Question.{Question}
+use Rattle.sheet.specs.Sections.{Row, Sheet, rows, components, elements, events, nodes, transitions, questions}
+use Rattle.sheet.specs.Typed.{component-entry, element-entry, event-entry, node-entry, transition-entry, question-entry}
 
 -- what a row holds, if anything
 abbrev pub held : {X : Type 0} → Entry X → Option X
@@ -44,6 +45,9 @@ node-at s i = there node-entry (rows s nodes) i
 
 abbrev pub transition-at : Sheet → ℕ → Option Transition
 transition-at s i = there transition-entry (rows s transitions) i
+
+abbrev pub question-at : Sheet → ℕ → Option Question
+question-at s i = there question-entry (rows s questions) i
 
 -- it is there, and the test is passed
 abbrev pub is : {X : Type 0} → Option X → (X → Bool) → Bool
