@@ -47,7 +47,7 @@ count-line s k = section-name k ++ (codes ": " ++ (decimal (length (rows s k)) +
 
 abbrev pub component-text : ℕ → Option Component → List ℕ
 component-text i None = []
-component-text i (Some x) = codes "component " ++ (decimal i ++ (codes " has " ++ (decimal (x .modes) ++ (codes " modes and starts in mode " ++ (decimal (x .start) ++ codes "\n")))))
+component-text i (Some x) = codes "component " ++ (decimal i ++ (codes ": modes 1 to " ++ (decimal (x .modes) ++ (codes ", starts in mode " ++ (decimal (x .start) ++ codes "\n")))))
 
 abbrev pub component-line : Sheet → ℕ → List ℕ
 component-line s i = component-text i (component-at s i)

@@ -57,7 +57,7 @@ pub(crate) impl<'a> Lines for Components<'a> as ComponentsLines {
         };
         let modes = x.modes;
         let start = x.start;
-        format!(heap, "component {i} has {modes} modes and starts in mode {start}\n")
+        format!(heap, "component {i}: modes 1 to {modes}, starts in mode {start}\n")
     }
 }
 

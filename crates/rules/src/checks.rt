@@ -57,14 +57,14 @@ pub(crate) trait Tried: Copy {
 }
 
 // Rows of which two can clash.
-trait Clashing: Copy {
+pub(crate) trait Clashing: Copy {
     ghost clash: { Self → Self → Bool };
 
     fn clashes(self, later: Self) -> bool
         ensures { λ r. ⌜ r ≡ clash self later ⌝ };
 }
 
-impl Clashing for Flow as FlowClashing {
+pub(crate) impl Clashing for Flow as FlowClashing {
     ghost clash = { flows-clash };
 
     fn clashes(self, later: Flow) -> bool {
@@ -72,7 +72,7 @@ impl Clashing for Flow as FlowClashing {
     }
 }
 
-impl Clashing for Setting as SettingClashing {
+pub(crate) impl Clashing for Setting as SettingClashing {
     ghost clash = { settings-clash };
 
     fn clashes(self, later: Setting) -> bool {
