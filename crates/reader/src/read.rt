@@ -25,8 +25,8 @@ pub fn verdict(bytes: &[u8]) -> Result<(), Refusal>
     ensures value { λ r. ⌜ r ≡ verdict-on (now (bytes .entry)) ⌝ }
     ensures names_the_first_fault { λ r. ⌜ Names-the-first-fault (now (bytes .entry)) r ⌝ }
 {
-    let layout = lay_out(bytes)?;
-    try_rows(&layout)
+    let sections = lay_out(bytes)?;
+    try_rows(&sections)
 }
 
 // The rows of a layout that is accepted, copied.

@@ -37,7 +37,7 @@ pub judged-err : {X : Type 0} (x : X) (v : Try Refusal) (f : Refusal) → judged
 judged-err x None f e = absurd (let z : _≡_ {A = ℕ} 0 1 = cc in omega arith)
 judged-err x (Some g) f e = cc
 
-none-passes : (v : Try Refusal) → v ≡ None → not (isSome v) ≡ true
+pub none-passes : (v : Try Refusal) → v ≡ None → not (isSome v) ≡ true
 none-passes v e = rw e
 
 pub passes-none : (v : Try Refusal) → not (isSome v) ≡ true → v ≡ None

@@ -3,4 +3,5 @@ pub mod Firsts
 pub mod Joins
 pub mod Layouts
 pub mod Lookups
+pub mod Meaning
 pub mod Shapes

@@ -80,3 +80,22 @@ marks ns t (suc n) = marks ns t n ++ (mark ns t n (marks ns t n) ∷ [])
 -- Node n rests on the target.
 abbrev pub rests : Sheet → Target → ℕ → Bool
 rests s t n = mark (rows s nodes) t n (marks (rows s nodes) t n)
+
+-- ---- what resting means
+
+abbrev pub among : ℕ → List ℕ → Bool
+among o [] = false
+among o (a ∷ os) = eqb o a || among o os
+
+-- From node n one comes to node m by going from nodes to their operands.
+pub data Reaches (ns : List Row) : ℕ → ℕ → Type 0 where
+  itself : {n : ℕ} → Reaches ns n n
+  through : {n o m : ℕ} {x : Node} → there node-entry ns n ≡ Some x → among o (operands x) ≡ true → Reaches ns o m → Reaches ns n m
+
+-- Node n rests on the target: it reaches a node that is the target or names it.
+pub record Rests-on (ns : List Row) (t : Target) (n : ℕ) : Type 0 where
+  pub node : ℕ
+  pub value : Node
+  pub reached : Reaches ns n node
+  pub stands : there node-entry ns node ≡ Some value
+  pub hit : hits t node value ≡ true

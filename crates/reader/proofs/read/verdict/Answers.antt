@@ -1,23 +1,18 @@
 use mathlib.Core.Path.{_≡_, sym, ap, _∙_}
 use Rattle.std.proofs.shelf.Results.{err-from-errBy}
-use Rattle.std.specs.declared.result.Result.the-variants.{Ok, Err}
-use Rattle.sheet.specs.declared.refusal.Refusal.{Refusal}
+use Rattle.std.specs.declared.result.Result.the-variants.{Err}
 use Rattle.sheet.specs.Accept.{verdict, judged}
-use Rattle.std.specs.declared.result.Result.{Result}
-use Prim.Native.Nat.{ℕ}
-use mathlib.Core.List.{List}
-use Rattle.sheet.specs.Laws.{Names-the-first-fault}
 use Rattle.sheet.proofs.Acceptance.{names-first-as}
 use Rattle.reader.proofs.Verdicts.{refused-layout, judged-by-rows}
 use Rattle.reader.proofs.read.verdict.Needs as need
 
-pub returns-in-Break-layout : need.returns-in-Break-layout
-returns-in-Break-layout c =
+pub returns-in-Break-sections : need.returns-in-Break-sections
+returns-in-Break-sections c =
     let p = err-from-errBy (c .from-residual .result) (c .from-residual .ensures .1) in
-    let value : c .from-residual .result ≡ verdict (c .args .bytes .now) = p .1 ∙ ap Err (p .2) ∙ sym (ap (judged tt) (refused-layout (c .args .bytes .now) _ (c .in-Break-layout .ensures tt .answer))) in
+    let value : c .from-residual .result ≡ verdict (c .args .bytes .now) = p .1 ∙ ap Err (p .2) ∙ sym (ap (judged tt) (refused-layout (c .args .bytes .now) _ (c .in-Break-sections .ensures tt .answer))) in
     record { value = value; names-the-first-fault = names-first-as (c .args .bytes .now) tt (c .from-residual .result) value }
 
 pub returns : need.returns
 returns c =
-    let value : c .try-rows .result ≡ verdict (c .args .bytes .now) = c .try-rows .ensures ∙ ap (judged tt) (judged-by-rows (c .args .bytes .now) (c .in-Continue-layout .layout) (c .in-Continue-layout .ensures tt .answer)) in
+    let value : c .try-rows .result ≡ verdict (c .args .bytes .now) = c .try-rows .ensures ∙ ap (judged tt) (judged-by-rows (c .args .bytes .now) (c .in-Continue-sections .sections) (c .in-Continue-sections .ensures tt .answer)) in
     record { value = value; names-the-first-fault = names-first-as (c .args .bytes .now) tt (c .try-rows .result) value }
