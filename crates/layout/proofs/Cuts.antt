@@ -39,8 +39,8 @@ module _ (s : ℕ) (h : Shape) (bs : List ℕ) (n : ℕ) (rest : List ℕ) (is :
   unfolding section
   not-allowed out =
       let wrong : (leb (h .least) n && leb n (h .most)) ≡ false =
-            ⊎-elim (λ (l : n < h .least). and-left (leb (h .least) n) (leb n (h .most)) (lt-leb (h .least) n l))
-            (λ (l : h .most < n). and-right (leb (h .least) n) (leb n (h .most)) (lt-leb n (h .most) l)) out in
+      ⊎-elim (λ (l : n < h .least). and-left (leb (h .least) n) (leb n (h .most)) (lt-leb (h .least) n l))
+      (λ (l : h .most < n). and-right (leb (h .least) n) (leb n (h .most)) (lt-leb n (h .most) l)) out in
       rw (is, counted n rest, wrong)
 
   module _ (few : h .least ≤ n) (many : n ≤ h .most) (some : 0 < h .width) where
@@ -52,14 +52,14 @@ module _ (s : ℕ) (h : Shape) (bs : List ℕ) (n : ℕ) (rest : List ℕ) (is :
         let i = length rest / w in
         let right : (leb (h .least) n && leb n (h .most)) ≡ true = and-from (leb (h .least) n) (leb n (h .most)) (le-leb (h .least) n few) (le-leb n (h .most) many) in
         let before : first-fault (each i (fits-tries s h (n ∷ rest))) ≡ None =
-              each-pass (fits-tries s h (n ∷ rest)) i (λ j b.
-                let up : j + 1 ≤ i = omega arith in
-                let room : row-fits h (n ∷ rest) j ≡ true = le-leb (1 + (j + 1) * w) (length (n ∷ rest)) (omega (arith, mul-le-mul-right w up, div-mul-le-self (length rest) w)) in
-                rw room) in
+        each-pass (fits-tries s h (n ∷ rest)) i (λ j b.
+        let up : j + 1 ≤ i = omega arith in
+        let room : row-fits h (n ∷ rest) j ≡ true = le-leb (1 + (j + 1) * w) (length (n ∷ rest)) (omega (arith, mul-le-mul-right w up, div-mul-le-self (length rest) w)) in
+        rw room) in
         let stops : first-fault (fits-tries s h (n ∷ rest) i) ≡ Some (refusal EndsEarly s i) =
-              (let m : (i + 1) * w ≡ i * w + w = omega arith in
-               let none : row-fits h (n ∷ rest) i ≡ false = lt-leb (1 + (i + 1) * w) (length (n ∷ rest)) (omega (arith, m, lt-div-mul-add {a = length rest} {b = w} some)) in
-               rw none) in
+        (let m : (i + 1) * w ≡ i * w + w = omega arith in
+        let none : row-fits h (n ∷ rest) i ≡ false = lt-leb (1 + (i + 1) * w) (length (n ∷ rest)) (omega (arith, m, lt-div-mul-add {a = length rest} {b = w} some)) in
+        rw none) in
         rw (is, counted n rest, right) (ap (judged _) (each-stops (fits-tries s h (n ∷ rest)) i n (refusal EndsEarly s i) before stops l))
 
     pub whole : n * h .width ≤ length rest → section s h bs ≡ Ok (chunked (h .width) n rest, drop (n * h .width) rest)

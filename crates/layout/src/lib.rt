@@ -33,21 +33,38 @@ use sheet::sizes::SETTING_BYTES;
 use sheet::sizes::TRANSITION_BYTES;
 
 // The rows of a section at the front of the bytes, and the bytes behind it.
-fn take_section<const N: usize>(bytes: &[u8], section: usize, least: u8, most: u8) -> Result<(&[[u8; N]], &[u8]), Refusal>
+fn take_section<const N: usize>(
+    bytes: &[u8],
+    section: usize,
+    least: u8,
+    most: u8,
+) -> Result<(&[[u8; N]], &[u8]), Refusal>
     requires { ⌜ 0 < N ⌝ ∗ ⌜ N ≤ 8 ⌝ }
     ensures answer { λ r. ⌜ Tells (λ p. (now (p .0), now (p .1))) (section-in section (shape N least most) (now (bytes .entry))) r ⌝ }
     ensures typed { λ _. ⌜ are-bytes (now (bytes .entry)) ≡ true ⌝ }
 {
     let Some((count, rest)) = bytes.split_first() else {
-        return Err(Refusal { reason: Reason::EndsEarly, section, row: 0 });
+        return Err(Refusal {
+            reason: Reason::EndsEarly,
+            section,
+            row: 0,
+        });
     };
     if *count < least || *count > most {
-        return Err(Refusal { reason: Reason::CountNotAllowed, section, row: 0 });
+        return Err(Refusal {
+            reason: Reason::CountNotAllowed,
+            section,
+            row: 0,
+        });
     }
     let count = *count as usize;
     let whole_rows = rest.len() / N;
     if whole_rows < count {
-        return Err(Refusal { reason: Reason::EndsEarly, section, row: whole_rows });
+        return Err(Refusal {
+            reason: Reason::EndsEarly,
+            section,
+            row: whole_rows,
+        });
     }
     let (own, behind) = rest.split_at(count * N);
     let (rows, _) = own.as_chunks::<N>();
@@ -69,9 +86,23 @@ fn take_sections(bytes: &[u8]) -> Result<Layout<'_>, Refusal>
     let (settings, rest) = take_section::<SETTING_BYTES>(rest, 7, 0, MOST_SETTINGS)?;
     let (questions, rest) = take_section::<QUESTION_BYTES>(rest, 8, 0, MOST_QUESTIONS)?;
     if !rest.is_empty() {
-        return Err(Refusal { reason: Reason::LeftOver, section: SECTIONS, row: 0 });
+        return Err(Refusal {
+            reason: Reason::LeftOver,
+            section: SECTIONS,
+            row: 0,
+        });
     }
-    Ok(Layout { components, elements, events, nodes, flows, connections, transitions, settings, questions })
+    Ok(Layout {
+        components,
+        elements,
+        events,
+        nodes,
+        flows,
+        connections,
+        transitions,
+        settings,
+        questions,
+    })
 }
 
 // The sections of a sheet where they lie in the bytes, or the first fault of the layout.

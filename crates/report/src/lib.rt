@@ -2,5 +2,5 @@
 
 mod lines;
 mod names;
-mod rewrite;
 pub mod report;
+mod rewrite;

@@ -57,7 +57,10 @@ pub(crate) impl<'a> Lines for Components<'a> as ComponentsLines {
         };
         let modes = x.modes;
         let start = x.start;
-        format!(heap, "component {i}: modes 1 to {modes}, starts in mode {start}\n")
+        format!(
+            heap,
+            "component {i}: modes 1 to {modes}, starts in mode {start}\n"
+        )
     }
 }
 
@@ -74,7 +77,12 @@ pub(crate) impl<'a> Lines for Questions<'a> as QuestionsLines {
 }
 
 // Adds the first n lines to the text.
-pub(crate) fn add_lines<L: Lines>(text: &mut String, heap: Global, source: &L, n: usize) -> Result<(), AllocError>
+pub(crate) fn add_lines<L: Lines>(
+    text: &mut String,
+    heap: Global,
+    source: &L,
+    n: usize,
+) -> Result<(), AllocError>
     ensures { λ r. ⌜ made r (λ _. string-bytes (now (text .exit)) ≡ string-bytes (now (text .entry)) ++ lines n (L·Lines .line (now (source .entry)))) ⌝ }
 {
     for i in 0..n {

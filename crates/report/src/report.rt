@@ -56,7 +56,11 @@ fn report_of_refusal(heap: Global, f: Refusal) -> Result<String, AllocError>
 }
 
 // Writes the sheet out again, and says that the bytes are the same.
-fn line_of_rewriting(heap: Global, sheet: &AcceptedSheet, bytes: &[u8]) -> Result<String, AllocError>
+fn line_of_rewriting(
+    heap: Global,
+    sheet: &AcceptedSheet,
+    bytes: &[u8],
+) -> Result<String, AllocError>
     requires { ⌜ bytes-of (rows-held (now sheet)) ≡ now bytes ⌝ }
     ensures { λ r. ⌜ made r (λ t. string-bytes t ≡ rewritten-line (length (now (bytes .entry)))) ⌝ }
 {
@@ -75,8 +79,18 @@ fn report_of_sheet(heap: Global, sheet: &AcceptedSheet, bytes: &[u8]) -> Result<
 {
     let mut text = String::from_str(heap, "accepted\n")?;
     add_lines(&mut text, heap, &Counts { sheet }, SECTIONS)?;
-    add_lines(&mut text, heap, &Components { sheet }, sheet.count(0).unwrap_or(0))?;
-    add_lines(&mut text, heap, &Questions { sheet }, sheet.count(8).unwrap_or(0))?;
+    add_lines(
+        &mut text,
+        heap,
+        &Components { sheet },
+        sheet.count(0).unwrap_or(0),
+    )?;
+    add_lines(
+        &mut text,
+        heap,
+        &Questions { sheet },
+        sheet.count(8).unwrap_or(0),
+    )?;
     let rewriting = line_of_rewriting(heap, sheet, bytes)?;
     text.push_str(rewriting.as_str())?;
     Ok(text)

@@ -91,7 +91,11 @@ fn clashes_with<const N: usize, R: FromRow<N> + Clashing>(rows: &[[u8; N]], j: u
 }
 
 // Whether row i, which holds x, clashes with no earlier row.
-fn is_clear_of_earlier<const N: usize, R: FromRow<N> + Clashing>(rows: &[[u8; N]], i: usize, x: R) -> bool
+fn is_clear_of_earlier<const N: usize, R: FromRow<N> + Clashing>(
+    rows: &[[u8; N]],
+    i: usize,
+    x: R,
+) -> bool
     ensures { λ r. ⌜ r ≡ clear-of-earlier (R·FromRow .entry) (R·Clashing .clash) (now (rows .entry)) i x ⌝ }
 {
     for j in 0..i {
@@ -171,7 +175,8 @@ pub(crate) impl Tried for Node as NodeTried {
         match self {
             Node::Constant(_) | Node::True => true,
             Node::Element(e) => element(sheet, e).is_some(),
-            Node::Sum(a, b) | Node::Difference(a, b) | Node::Equal(a, b) | Node::Less(a, b) => is_lower_value(sheet, i, a) && is_lower_value(sheet, i, b),
+            Node::Sum(a, b) | Node::Difference(a, b) | Node::Equal(a, b) | Node::Less(a, b) =>
+                is_lower_value(sheet, i, a) && is_lower_value(sheet, i, b),
             Node::Not(a) => is_lower_condition(sheet, i, a),
             Node::And(a, b) => is_lower_condition(sheet, i, a) && is_lower_condition(sheet, i, b),
             Node::InMode(c, m) => has_mode(sheet, c, m),
@@ -194,7 +199,9 @@ pub(crate) impl Tried for Flow as FlowTried {
         let Some(port) = element(sheet, self.port) else {
             return false;
         };
-        is_a_port(port) && has_modes(sheet, port.component, self.modes) && is_value_node(sheet, self.node)
+        is_a_port(port)
+            && has_modes(sheet, port.component, self.modes)
+            && is_value_node(sheet, self.node)
     }
 
     fn free(self, sheet: &Layout, i: usize) -> bool {
@@ -223,7 +230,8 @@ pub(crate) impl Tried for Connection as ConnectionTried {
     ghost checks = { connection-checks };
 
     fn names(self, sheet: &Layout, _i: usize) -> bool {
-        are_connected(event(sheet, self.out_event), event(sheet, self.in_event)) && has_modes(sheet, self.owner, self.modes)
+        are_connected(event(sheet, self.out_event), event(sheet, self.in_event))
+            && has_modes(sheet, self.owner, self.modes)
     }
 
     fn free(self, _sheet: &Layout, _i: usize) -> bool {
@@ -284,7 +292,11 @@ pub(crate) impl Tried for Setting as SettingTried {
     ghost checks = { setting-checks };
 
     fn names(self, sheet: &Layout, _i: usize) -> bool {
-        is_settable(transition(sheet, self.transition), element(sheet, self.element)) && is_value_node(sheet, self.node)
+        is_settable(
+            transition(sheet, self.transition),
+            element(sheet, self.element),
+        )
+            && is_value_node(sheet, self.node)
     }
 
     fn free(self, sheet: &Layout, i: usize) -> bool {

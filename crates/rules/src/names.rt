@@ -89,7 +89,12 @@ fn gives_a_value(node: Node) -> bool
 {
     match node {
         Node::Constant(_) | Node::Element(_) | Node::Sum(_, _) | Node::Difference(_, _) => true,
-        Node::True | Node::Equal(_, _) | Node::Less(_, _) | Node::Not(_) | Node::And(_, _) | Node::InMode(_, _) => false,
+        Node::True
+        | Node::Equal(_, _)
+        | Node::Less(_, _)
+        | Node::Not(_)
+        | Node::And(_, _)
+        | Node::InMode(_, _) => false,
     }
 }
 

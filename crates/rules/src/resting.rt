@@ -41,7 +41,11 @@ fn has_marked_operand(table: &[bool], node: Node) -> bool
     ensures { λ r. ⌜ r ≡ any-marked (now (table .entry)) (operands node) ⌝ }
 {
     match node {
-        Node::Sum(a, b) | Node::Difference(a, b) | Node::Equal(a, b) | Node::Less(a, b) | Node::And(a, b) => is_marked(table, a) || is_marked(table, b),
+        Node::Sum(a, b)
+        | Node::Difference(a, b)
+        | Node::Equal(a, b)
+        | Node::Less(a, b)
+        | Node::And(a, b) => is_marked(table, a) || is_marked(table, b),
         Node::Not(a) => is_marked(table, a),
         Node::Constant(_) | Node::Element(_) | Node::True | Node::InMode(_, _) => false,
     }

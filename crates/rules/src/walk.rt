@@ -52,21 +52,42 @@ use sheet::sizes::SETTING_BYTES;
 use sheet::sizes::TRANSITION_BYTES;
 
 // Tries row i of a section: by itself, by what it names, for a clash, and by what it rests on.
-fn try_row<const N: usize, R: FromRow<N> + Tried>(sheet: &Layout, section: usize, i: usize, row: &[u8; N]) -> Result<(), Refusal>
+fn try_row<const N: usize, R: FromRow<N> + Tried>(
+    sheet: &Layout,
+    section: usize,
+    i: usize,
+    row: &[u8; N],
+) -> Result<(), Refusal>
     ensures { λ r. ⌜ r ≡ judged tt (first-fault (entry-tries section i (R·Tried .checks (rows-of (now (sheet .entry))) i) (R·FromRow .entry (now (row .entry))))) ⌝ }
 {
     match R::from_row(row) {
         Entry::Blank => Ok(()),
-        Entry::Faulty => Err(Refusal { reason: Reason::WrongByItself, section, row: i }),
+        Entry::Faulty => Err(Refusal {
+            reason: Reason::WrongByItself,
+            section,
+            row: i,
+        }),
         Entry::Holds(x) => {
             if !x.names(sheet, i) {
-                return Err(Refusal { reason: Reason::WrongByReference, section, row: i });
+                return Err(Refusal {
+                    reason: Reason::WrongByReference,
+                    section,
+                    row: i,
+                });
             }
             if !x.free(sheet, i) {
-                return Err(Refusal { reason: Reason::Clash, section, row: i });
+                return Err(Refusal {
+                    reason: Reason::Clash,
+                    section,
+                    row: i,
+                });
             }
             if !x.low(sheet, i) {
-                return Err(Refusal { reason: Reason::ForbiddenResting, section, row: i });
+                return Err(Refusal {
+                    reason: Reason::ForbiddenResting,
+                    section,
+                    row: i,
+                });
             }
             Ok(())
         }
@@ -74,7 +95,11 @@ fn try_row<const N: usize, R: FromRow<N> + Tried>(sheet: &Layout, section: usize
 }
 
 // Tries the rows of a section, each with its index.
-fn try_section<const N: usize, R: FromRow<N> + Tried>(sheet: &Layout, section: usize, rows: &[[u8; N]]) -> Result<(), Refusal>
+fn try_section<const N: usize, R: FromRow<N> + Tried>(
+    sheet: &Layout,
+    section: usize,
+    rows: &[[u8; N]],
+) -> Result<(), Refusal>
     ensures { λ r. ⌜ r ≡ section-verdict section (R·FromRow .entry) (R·Tried .checks (rows-of (now (sheet .entry)))) (now (rows .entry)) ⌝ }
 {
     for (i, row) in rows.iter().enumerate() {

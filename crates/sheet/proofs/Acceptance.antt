@@ -65,6 +65,6 @@ reads-back s a =
     let p = and-parts (shaped shapes s) (not (isSome (first-fault (sheet-tries s)))) a in
     let same = shaped-sections shapes s (p .0) in
     let none : first-fault (tries (bytes-of s)) ≡ None =
-          first-both (layout-tries 0 shapes (bytes-of s)) (sheet-tries (rows-in (bytes-of s))) (shaped-layout 0 shapes s (p .0))
-          (ap (λ t. first-fault (sheet-tries t)) same ∙ passes-none (first-fault (sheet-tries s)) (p .1)) in
+    first-both (layout-tries 0 shapes (bytes-of s)) (sheet-tries (rows-in (bytes-of s))) (shaped-layout 0 shapes s (p .0))
+    (ap (λ t. first-fault (sheet-tries t)) same ∙ passes-none (first-fault (sheet-tries s)) (p .1)) in
     ap (judged (rows-in (bytes-of s))) none ∙ ap Ok same

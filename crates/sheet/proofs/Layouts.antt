@@ -124,8 +124,8 @@ pub laid-section : (s : ℕ) (h : Shape) (bs : List ℕ) → Laid h bs → first
 laid-section s h bs l =
     rw (must-pass (ltb 0 (length bs)) (refusal EndsEarly s 0) (lt-ltb 0 (length bs) (l .counted)), must-pass (leb (h .least) (count-in bs) && leb (count-in bs) (h .most)) (refusal CountNotAllowed s 0) (l .few))
     (each-pass (λ i. must (row-fits h bs i) (refusal EndsEarly s i) ∷ []) (count-in bs) (λ i b.
-      let up : i + 1 ≤ count-in bs = omega arith in
-      one-pass (must (row-fits h bs i) (refusal EndsEarly s i)) (must-pass (row-fits h bs i) (refusal EndsEarly s i) (le-leb (1 + (i + 1) * h .width) (length bs) (omega (arith, mul-le-mul-right (h .width) up, l .whole))))))
+    let up : i + 1 ≤ count-in bs = omega arith in
+    one-pass (must (row-fits h bs i) (refusal EndsEarly s i)) (must-pass (row-fits h bs i) (refusal EndsEarly s i) (le-leb (1 + (i + 1) * h .width) (length bs) (omega (arith, mul-le-mul-right (h .width) up, l .whole))))))
 
 -- ---- all sections
 

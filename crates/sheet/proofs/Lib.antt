@@ -4,4 +4,5 @@ pub mod Joins
 pub mod Layouts
 pub mod Lookups
 pub mod Meaning
+pub mod Rested
 pub mod Shapes

@@ -79,7 +79,7 @@ module _ {X : Type 0} (s : ℕ) (entry : Row → Entry X) (checks : ℕ → X �
   right-section : Right entry checks rs → first-fault (rows-tries s entry checks rs) ≡ None
   right-section r =
       each-pass (λ i. entry-tries s i (checks i) (entry (getD rs i []))) (length rs) (λ i l.
-        row-right s i (checks i) (entry (getD rs i [])) (r .not-faulty i l) (λ x f. r .passes i x (ap (read-by entry) (nth-getD rs i [] l) ∙ ap held f)))
+      row-right s i (checks i) (entry (getD rs i [])) (r .not-faulty i l) (λ x f. r .passes i x (ap (read-by entry) (nth-getD rs i [] l) ∙ ap held f)))
 
 -- ---- the sheet
 

@@ -58,6 +58,10 @@ pub record Keeps-the-rules (s : Sheet) : Type 0 where
   pub settings-right : Right setting-entry (setting-checks s) (rows s settings)
   pub questions-right : Right question-entry (question-checks s) (rows s questions)
 
+-- Rows are accepted exactly where they keep the rules.
+abbrev pub Acceptance-is-keeping-the-rules : Type 0
+Acceptance-is-keeping-the-rules = (s : Sheet) → Decides (accepted s) (Keeps-the-rules s)
+
 -- A node's mark says whether it rests on the target.
 abbrev pub Resting-is-reaching : Sheet → Type 0
 Resting-is-reaching s = (t : Target) (n : ℕ) → Decides (rests s t n) (Rests-on (rows s nodes) t n)

@@ -106,7 +106,13 @@ pub impl FromRow<ELEMENT_BYTES> for Element as ElementFromRow {
         let highest = number_of(h0, h1);
         let rest = number_of(r0, r1);
         if lowest <= rest && rest <= highest {
-            Entry::Holds(Element { kind, component, lowest, highest, rest })
+            Entry::Holds(Element {
+                kind,
+                component,
+                lowest,
+                highest,
+                rest,
+            })
         } else {
             Entry::Faulty
         }
@@ -121,8 +127,14 @@ pub impl FromRow<EVENT_BYTES> for Event as EventFromRow {
     {
         match *row {
             [0, 0] => Entry::Blank,
-            [1, component] => Entry::Holds(Event { direction: Direction::Out, component }),
-            [2, component] => Entry::Holds(Event { direction: Direction::In, component }),
+            [1, component] => Entry::Holds(Event {
+                direction: Direction::Out,
+                component,
+            }),
+            [2, component] => Entry::Holds(Event {
+                direction: Direction::In,
+                component,
+            }),
             _ => Entry::Faulty,
         }
     }
@@ -183,7 +195,12 @@ pub impl FromRow<CONNECTION_BYTES> for Connection as ConnectionFromRow {
         let [out_event, in_event, owner, m0, m1] = *row;
         let modes = mode_set_of(m0, m1);
         if lists_modes(modes) {
-            Entry::Holds(Connection { out_event, in_event, owner, modes })
+            Entry::Holds(Connection {
+                out_event,
+                in_event,
+                owner,
+                modes,
+            })
         } else {
             Entry::Faulty
         }
@@ -204,7 +221,13 @@ pub impl FromRow<TRANSITION_BYTES> for Transition as TransitionFromRow {
             return Entry::Faulty;
         }
         let event = if event == 255 { None } else { Some(event) };
-        Entry::Holds(Transition { component, from, to, event, guard })
+        Entry::Holds(Transition {
+            component,
+            from,
+            to,
+            event,
+            guard,
+        })
     }
 }
 
@@ -216,7 +239,11 @@ pub impl FromRow<SETTING_BYTES> for Setting as SettingFromRow {
     {
         match *row {
             [255, 0, 0] => Entry::Blank,
-            [transition, element, node] => Entry::Holds(Setting { transition, element, node }),
+            [transition, element, node] => Entry::Holds(Setting {
+                transition,
+                element,
+                node,
+            }),
         }
     }
 }

@@ -23,7 +23,7 @@ pub returns-then-count-least : need.returns-then-count-least
 returns-then-count-least g c =
     record {
       answer = not-allowed (c .args .section) (shape (g .N) (c .args .least) (c .args .most)) (c .args .bytes .now) (c .in-Some .count .now) (c .in-Some .rest .now) (c .in-Some .ensures tt .cases .0)
-        (elim (c .then-count-least .came) [ then-count-least·by·then-count-least w ↦ inl (w .if-count-least .taken) | then-count-least·by·else-count-least·then-count-most w ↦ inr (w .if-count-most .taken) ]);
+          (elim (c .then-count-least .came) [ then-count-least·by·then-count-least w ↦ inl (w .if-count-least .taken) | then-count-least·by·else-count-least·then-count-most w ↦ inr (w .if-count-most .taken) ]);
       typed = bytes-from (c .args .bytes .now) (c .typed .bytes);
     }
 
@@ -44,9 +44,9 @@ returns g c =
     let room : n * g .N ≤ length rest = omega (arith, mul-le-mul-right (g .N) (c .if-whole-rows-count .left), div-mul-le-self (length rest) (g .N)) in
     let count : length (c .split-at .result .0 .now) / g .N ≡ n = ap (λ k. k / g .N) (c .split-at .ensures .front-len) ∙ mul-div-cancel n (c .pre .0) in
     let rows : c .as-chunks .result .0 .now ≡ chunked (g .N) n rest =
-          c .as-chunks .ensures .front ∙ (λ i. chunked (g .N) (count i) (c .split-at .ensures .front i)) ∙ chunked-front (g .N) n rest in
+    c .as-chunks .ensures .front ∙ (λ i. chunked (g .N) (count i) (c .split-at .ensures .front i)) ∙ chunked-front (g .N) n rest in
     record {
       answer = whole (c .args .section) (shape (g .N) (c .args .least) (c .args .most)) (c .args .bytes .now) n rest (c .in-Some .ensures tt .cases .0) (c .if-count-least .left) (c .if-count-most .left) (c .pre .0) room
-        ∙ (λ i. Ok (sym rows i, sym (c .split-at .ensures .back) i));
+          ∙ (λ i. Ok (sym rows i, sym (c .split-at .ensures .back) i));
       typed = bytes-from (c .args .bytes .now) (c .typed .bytes);
     }

@@ -18,7 +18,7 @@ loop-i-holds g c = sym (append-nil (string-bytes (c .args .text .now)))
 pub loop-i-again : need.loop-i-again
 loop-i-again g c =
     let pushed : string-bytes (c .push-str .last .self) ≡ string-bytes (c .loop-i .text) ++ g .L·Lines .line (c .args .source .now) (c .loop-i .i) =
-          c .in-Continue-push-str .ensures tt .bytes ∙ ap (λ l. string-bytes (c .loop-i .text) ++ l) (c .as-str .ensures .value ∙ c .in-Continue-line .ensures tt) in
+    c .in-Continue-push-str .ensures tt .bytes ∙ ap (λ l. string-bytes (c .loop-i .text) ++ l) (c .as-str .ensures .value ∙ c .in-Continue-line .ensures tt) in
     pushed ∙ line-more (string-bytes (c .args .text .now)) (string-bytes (c .loop-i .text)) (g .L·Lines .line (c .args .source .now)) (c .loop-i .i) (c .loop-i .inv)
 
 pub returns : need.returns

@@ -24,9 +24,10 @@ loop-i-again c =
     let table = c .loop-i .table in
     let i = c .loop-i .i in
     let m = c .mark-of-m .result in
-    let inside : i < length table = omega (arith, c .loop-i .inv .0, c .fits .n .fits) in
-    (length-set table i m ∙ c .loop-i .inv .0,
-     take-more-set table i m inside ∙ marks-more (c .args .nodes .now) (c .args .target) i (take i table) m (c .loop-i .inv .1) (c .mark-of-m .ensures ∙ ap (λ k. mark (c .args .nodes .now) (c .args .target) i (take k table)) (from-start i)))
+    let inside : i < length table = omega (arith, c .loop-i .inv .0, c .fits .n .fits) in (
+      length-set table i m ∙ c .loop-i .inv .0,
+      take-more-set table i m inside ∙ marks-more (c .args .nodes .now) (c .args .target) i (take i table) m (c .loop-i .inv .1) (c .mark-of-m .ensures ∙ ap (λ k. mark (c .args .nodes .now) (c .args .target) i (take k table)) (from-start i)),
+    )
 
 pub returns : need.returns
 returns c =

@@ -17,9 +17,10 @@ pub add-total : need.add-total
 add-total c = record { fits = omega (arith, c .section-length-total .ensures .few, c .loop-section .inv .1) }
 
 pub loop-section-again : need.loop-section-again
-loop-section-again c =
-    (length-more (rows-held (c .args .sheet .now)) (c .loop-section .section) (c .loop-section .total) (c .section-length-total .result) (c .loop-section-test .taken) (c .loop-section .inv .0) (c .section-length-total .ensures .value),
-     omega (arith, c .section-length-total .ensures .few, c .loop-section .inv .1))
+loop-section-again c = (
+  length-more (rows-held (c .args .sheet .now)) (c .loop-section .section) (c .loop-section .total) (c .section-length-total .result) (c .loop-section-test .taken) (c .loop-section .inv .0) (c .section-length-total .ensures .value),
+  omega (arith, c .section-length-total .ensures .few, c .loop-section .inv .1),
+)
 
 pub returns : need.returns
 returns c = c .loop-section .inv .0 ∙ ap (λ s. length (bytes-of s)) (take-all (c .loop-section .section) (rows-held (c .args .sheet .now)) (omega arith))

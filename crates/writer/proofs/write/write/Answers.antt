@@ -26,9 +26,10 @@ pub put-section-at-requires : need.put-section-at-requires
 put-section-at-requires c κs =
     let s = rows-held (c .args .sheet .now) in
     let n : c .sheet-length-needed .result ≡ length (bytes-of s) = c .sheet-length-needed .ensures in
-    let room : 0 + length (bytes-of s) ≤ length (c .args .out .now) = omega (arith, n, c .if-out-needed .left) in
-    (c .loop-section-test .taken,
-     omega (arith, item-room section-bytes s (c .args .out .now) 0 room (c .loop-section .section) (c .loop-section .out) (c .loop-section .at) (c .loop-section .inv) [] (c .loop-section-test .taken)))
+    let room : 0 + length (bytes-of s) ≤ length (c .args .out .now) = omega (arith, n, c .if-out-needed .left) in (
+      c .loop-section-test .taken,
+      omega (arith, item-room section-bytes s (c .args .out .now) 0 room (c .loop-section .section) (c .loop-section .out) (c .loop-section .at) (c .loop-section .inv) [] (c .loop-section-test .taken)),
+    )
 
 pub loop-section-again : need.loop-section-again
 loop-section-again c =
