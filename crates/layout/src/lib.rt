@@ -32,6 +32,14 @@ use sheet::sizes::SECTIONS;
 use sheet::sizes::SETTING_BYTES;
 use sheet::sizes::TRANSITION_BYTES;
 
+// The sections of a sheet where they lie in the bytes, or the first fault of the layout.
+pub fn lay_out(bytes: &[u8]) -> Result<Layout<'_>, Refusal>
+    ensures answer { λ r. ⌜ Lays-out (now (bytes .entry)) r ⌝ }
+    ensures typed { λ _. ⌜ are-bytes (now (bytes .entry)) ≡ true ⌝ }
+{
+    take_sections(bytes)
+}
+
 // The rows of a section at the front of the bytes, and the bytes behind it.
 fn take_section<const N: usize>(
     bytes: &[u8],
@@ -103,12 +111,4 @@ fn take_sections(bytes: &[u8]) -> Result<Layout<'_>, Refusal>
         settings,
         questions,
     })
-}
-
-// The sections of a sheet where they lie in the bytes, or the first fault of the layout.
-pub fn lay_out(bytes: &[u8]) -> Result<Layout<'_>, Refusal>
-    ensures answer { λ r. ⌜ Lays-out (now (bytes .entry)) r ⌝ }
-    ensures typed { λ _. ⌜ are-bytes (now (bytes .entry)) ≡ true ⌝ }
-{
-    take_sections(bytes)
 }

@@ -30,6 +30,18 @@ pub fn verdict(bytes: &[u8]) -> Result<(), Refusal>
     try_rows(&sections)
 }
 
+// The sheet that the bytes are.
+pub fn read(heap: Global, bytes: &[u8]) -> Result<AcceptedSheet, ReadFault>
+    ensures answer { λ r. ⌜ Reads (now (bytes .entry)) r ⌝ }
+    ensures writes_the_same_bytes { λ r. ⌜ Writes-the-same-bytes (now (bytes .entry)) r ⌝ }
+    ensures keeps_every_rule { λ r. ⌜ Keeps-every-rule r ⌝ }
+{
+    let layout = lay_out(bytes)?;
+    try_rows(&layout)?;
+    let sheet = copied(heap, &layout)?;
+    Ok(sheet)
+}
+
 // The rows of a layout that is accepted, copied.
 fn copied(heap: Global, layout: &Layout) -> Result<AcceptedSheet, AllocError>
     requires { ⌜ accepts (rows-of (now layout)) ≡ true ⌝ }
@@ -55,16 +67,4 @@ fn copied(heap: Global, layout: &Layout) -> Result<AcceptedSheet, AllocError>
         settings,
         questions,
     })
-}
-
-// The sheet that the bytes are.
-pub fn read(heap: Global, bytes: &[u8]) -> Result<AcceptedSheet, ReadFault>
-    ensures answer { λ r. ⌜ Reads (now (bytes .entry)) r ⌝ }
-    ensures writes_the_same_bytes { λ r. ⌜ Writes-the-same-bytes (now (bytes .entry)) r ⌝ }
-    ensures keeps_every_rule { λ r. ⌜ Keeps-every-rule r ⌝ }
-{
-    let layout = lay_out(bytes)?;
-    try_rows(&layout)?;
-    let sheet = copied(heap, &layout)?;
-    Ok(sheet)
 }

@@ -27,6 +27,17 @@ use sheet::sizes::SECTIONS;
 use std::alloc::AllocError;
 use std::alloc::Global;
 
+// What is said of the bytes: whether they are accepted, and what is in them or why not.
+pub fn report(heap: Global, bytes: &[u8]) -> Result<String, AllocError>
+    ensures { λ r. ⌜ made r (λ t. string-bytes t ≡ report-of (now (bytes .entry))) ⌝ }
+{
+    match read(heap, bytes) {
+        Ok(sheet) => report_of_sheet(heap, &sheet, bytes),
+        Err(ReadFault::Refused(f)) => report_of_refusal(heap, f),
+        Err(ReadFault::OutOfMemory) => Err(AllocError),
+    }
+}
+
 fn line_of_refusal(heap: Global, f: Refusal) -> Result<String, AllocError>
     ensures { λ r. ⌜ made r (λ t. string-bytes t ≡ refused-line f) ⌝ }
 {
@@ -94,15 +105,4 @@ fn report_of_sheet(heap: Global, sheet: &AcceptedSheet, bytes: &[u8]) -> Result<
     let rewriting = line_of_rewriting(heap, sheet, bytes)?;
     text.push_str(rewriting.as_str())?;
     Ok(text)
-}
-
-// What is said of the bytes: whether they are accepted, and what is in them or why not.
-pub fn report(heap: Global, bytes: &[u8]) -> Result<String, AllocError>
-    ensures { λ r. ⌜ made r (λ t. string-bytes t ≡ report-of (now (bytes .entry))) ⌝ }
-{
-    match read(heap, bytes) {
-        Ok(sheet) => report_of_sheet(heap, &sheet, bytes),
-        Err(ReadFault::Refused(f)) => report_of_refusal(heap, f),
-        Err(ReadFault::OutOfMemory) => Err(AllocError),
-    }
 }

@@ -51,6 +51,13 @@ use sheet::sizes::QUESTION_BYTES;
 use sheet::sizes::SETTING_BYTES;
 use sheet::sizes::TRANSITION_BYTES;
 
+// The first fault of the rows of a sheet, or none.
+pub fn try_rows(sheet: &Layout) -> Result<(), Refusal>
+    ensures { λ r. ⌜ r ≡ judged tt (first-fault (sheet-tries (rows-of (now (sheet .entry))))) ⌝ }
+{
+    try_sections(sheet)
+}
+
 // Tries row i of a section: by itself, by what it names, for a clash, and by what it rests on.
 fn try_row<const N: usize, R: FromRow<N> + Tried>(
     sheet: &Layout,
@@ -121,11 +128,4 @@ fn try_sections(sheet: &Layout) -> Result<(), Refusal>
     try_section::<TRANSITION_BYTES, Transition>(sheet, 6, sheet.transitions)?;
     try_section::<SETTING_BYTES, Setting>(sheet, 7, sheet.settings)?;
     try_section::<QUESTION_BYTES, Question>(sheet, 8, sheet.questions)
-}
-
-// The first fault of the rows of a sheet, or none.
-pub fn try_rows(sheet: &Layout) -> Result<(), Refusal>
-    ensures { λ r. ⌜ r ≡ judged tt (first-fault (sheet-tries (rows-of (now (sheet .entry))))) ⌝ }
-{
-    try_sections(sheet)
 }
