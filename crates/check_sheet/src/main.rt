@@ -1,13 +1,12 @@
 // Reads a sheet from standard input and says whether it is accepted, and what is in it or why not.
 
 use report::report::report;
+use sheet::sizes::INPUT_LIMIT;
 use std::error::AnyError;
 use std::io::Read;
 
-// More than the longest sheet has. What lies behind is not read, and no verdict depends on it.
-const INPUT_LIMIT: usize = 2500;
-
-// Fills the buffer from standard input, and tells how many bytes came.
+// Fills the buffer from standard input, and tells how many bytes came. What lies behind is not read: a sheet's layout
+// ends before.
 fn read_input(rt: &LibcRuntime, buffer: &mut [u8]) -> Result<usize, AnyError> {
     let mut input = rt.stdin();
     let mut len = 0;

@@ -44,16 +44,16 @@ pub(crate) trait Tried: Copy {
     ghost checks: { List (List (List ℕ)) → ℕ → Self → Checks };
 
     // What the row names is there and fits.
-    fn names(self, sheet: &Layout, i: usize) -> bool
-        ensures { λ r. ⌜ r ≡ checks (rows-of (now (sheet .entry))) i self .names ⌝ };
+    fn names_right(self, sheet: &Layout, i: usize) -> bool
+        ensures { λ r. ⌜ r ≡ checks (rows-of (now (sheet .entry))) i self .names-right ⌝ };
 
     // The row does not clash with an earlier one.
-    fn free(self, sheet: &Layout, i: usize) -> bool
-        ensures { λ r. ⌜ r ≡ checks (rows-of (now (sheet .entry))) i self .free ⌝ };
+    fn clash_free(self, sheet: &Layout, i: usize) -> bool
+        ensures { λ r. ⌜ r ≡ checks (rows-of (now (sheet .entry))) i self .clash-free ⌝ };
 
     // The row rests on nothing forbidden.
-    fn low(self, sheet: &Layout, i: usize) -> bool
-        ensures { λ r. ⌜ r ≡ checks (rows-of (now (sheet .entry))) i self .low ⌝ };
+    fn rests_right(self, sheet: &Layout, i: usize) -> bool
+        ensures { λ r. ⌜ r ≡ checks (rows-of (now (sheet .entry))) i self .rests-right ⌝ };
 }
 
 // Rows of which two can clash.
@@ -109,15 +109,15 @@ fn is_clear_of_earlier<const N: usize, R: FromRow<N> + Clashing>(
 pub(crate) impl Tried for Component as ComponentTried {
     ghost checks = { component-checks };
 
-    fn names(self, _sheet: &Layout, _i: usize) -> bool {
+    fn names_right(self, _sheet: &Layout, _i: usize) -> bool {
         true
     }
 
-    fn free(self, _sheet: &Layout, _i: usize) -> bool {
+    fn clash_free(self, _sheet: &Layout, _i: usize) -> bool {
         true
     }
 
-    fn low(self, _sheet: &Layout, _i: usize) -> bool {
+    fn rests_right(self, _sheet: &Layout, _i: usize) -> bool {
         true
     }
 }
@@ -125,15 +125,15 @@ pub(crate) impl Tried for Component as ComponentTried {
 pub(crate) impl Tried for Element as ElementTried {
     ghost checks = { element-checks };
 
-    fn names(self, sheet: &Layout, _i: usize) -> bool {
+    fn names_right(self, sheet: &Layout, _i: usize) -> bool {
         has_component(sheet, self.component)
     }
 
-    fn free(self, _sheet: &Layout, _i: usize) -> bool {
+    fn clash_free(self, _sheet: &Layout, _i: usize) -> bool {
         true
     }
 
-    fn low(self, _sheet: &Layout, _i: usize) -> bool {
+    fn rests_right(self, _sheet: &Layout, _i: usize) -> bool {
         true
     }
 }
@@ -141,15 +141,15 @@ pub(crate) impl Tried for Element as ElementTried {
 pub(crate) impl Tried for Event as EventTried {
     ghost checks = { event-checks };
 
-    fn names(self, sheet: &Layout, _i: usize) -> bool {
+    fn names_right(self, sheet: &Layout, _i: usize) -> bool {
         has_component(sheet, self.component)
     }
 
-    fn free(self, _sheet: &Layout, _i: usize) -> bool {
+    fn clash_free(self, _sheet: &Layout, _i: usize) -> bool {
         true
     }
 
-    fn low(self, _sheet: &Layout, _i: usize) -> bool {
+    fn rests_right(self, _sheet: &Layout, _i: usize) -> bool {
         true
     }
 }
@@ -171,7 +171,7 @@ fn is_lower_condition(sheet: &Layout, i: usize, a: u8) -> bool
 pub(crate) impl Tried for Node as NodeTried {
     ghost checks = { node-checks };
 
-    fn names(self, sheet: &Layout, i: usize) -> bool {
+    fn names_right(self, sheet: &Layout, i: usize) -> bool {
         match self {
             Node::Constant(_) | Node::True => true,
             Node::Element(e) => element(sheet, e).is_some(),
@@ -183,11 +183,11 @@ pub(crate) impl Tried for Node as NodeTried {
         }
     }
 
-    fn free(self, _sheet: &Layout, _i: usize) -> bool {
+    fn clash_free(self, _sheet: &Layout, _i: usize) -> bool {
         true
     }
 
-    fn low(self, _sheet: &Layout, _i: usize) -> bool {
+    fn rests_right(self, _sheet: &Layout, _i: usize) -> bool {
         true
     }
 }
@@ -195,7 +195,7 @@ pub(crate) impl Tried for Node as NodeTried {
 pub(crate) impl Tried for Flow as FlowTried {
     ghost checks = { flow-checks };
 
-    fn names(self, sheet: &Layout, _i: usize) -> bool {
+    fn names_right(self, sheet: &Layout, _i: usize) -> bool {
         let Some(port) = element(sheet, self.port) else {
             return false;
         };
@@ -204,11 +204,11 @@ pub(crate) impl Tried for Flow as FlowTried {
             && is_value_node(sheet, self.node)
     }
 
-    fn free(self, sheet: &Layout, i: usize) -> bool {
+    fn clash_free(self, sheet: &Layout, i: usize) -> bool {
         is_clear_of_earlier::<FLOW_BYTES, Flow>(sheet.flows, i, self)
     }
 
-    fn low(self, sheet: &Layout, _i: usize) -> bool {
+    fn rests_right(self, sheet: &Layout, _i: usize) -> bool {
         !rests_on(sheet.nodes, Target::ElementFrom(self.port), self.node)
     }
 }
@@ -229,16 +229,16 @@ fn are_connected(out_event: Option<Event>, in_event: Option<Event>) -> bool
 pub(crate) impl Tried for Connection as ConnectionTried {
     ghost checks = { connection-checks };
 
-    fn names(self, sheet: &Layout, _i: usize) -> bool {
+    fn names_right(self, sheet: &Layout, _i: usize) -> bool {
         are_connected(event(sheet, self.out_event), event(sheet, self.in_event))
             && has_modes(sheet, self.owner, self.modes)
     }
 
-    fn free(self, _sheet: &Layout, _i: usize) -> bool {
+    fn clash_free(self, _sheet: &Layout, _i: usize) -> bool {
         true
     }
 
-    fn low(self, _sheet: &Layout, _i: usize) -> bool {
+    fn rests_right(self, _sheet: &Layout, _i: usize) -> bool {
         true
     }
 }
@@ -259,18 +259,18 @@ fn is_event_of(sheet: &Layout, c: u8, named: Option<u8>) -> bool
 pub(crate) impl Tried for Transition as TransitionTried {
     ghost checks = { transition-checks };
 
-    fn names(self, sheet: &Layout, _i: usize) -> bool {
+    fn names_right(self, sheet: &Layout, _i: usize) -> bool {
         has_mode(sheet, self.component, self.from)
             && has_mode(sheet, self.component, self.to)
             && is_event_of(sheet, self.component, self.event)
             && is_condition_node(sheet, self.guard)
     }
 
-    fn free(self, _sheet: &Layout, _i: usize) -> bool {
+    fn clash_free(self, _sheet: &Layout, _i: usize) -> bool {
         true
     }
 
-    fn low(self, sheet: &Layout, _i: usize) -> bool {
+    fn rests_right(self, sheet: &Layout, _i: usize) -> bool {
         !rests_on(sheet.nodes, Target::AnyMode, self.guard)
     }
 }
@@ -291,7 +291,7 @@ fn is_settable(by: Option<Transition>, what: Option<Element>) -> bool
 pub(crate) impl Tried for Setting as SettingTried {
     ghost checks = { setting-checks };
 
-    fn names(self, sheet: &Layout, _i: usize) -> bool {
+    fn names_right(self, sheet: &Layout, _i: usize) -> bool {
         is_settable(
             transition(sheet, self.transition),
             element(sheet, self.element),
@@ -299,11 +299,11 @@ pub(crate) impl Tried for Setting as SettingTried {
             && is_value_node(sheet, self.node)
     }
 
-    fn free(self, sheet: &Layout, i: usize) -> bool {
+    fn clash_free(self, sheet: &Layout, i: usize) -> bool {
         is_clear_of_earlier::<SETTING_BYTES, Setting>(sheet.settings, i, self)
     }
 
-    fn low(self, _sheet: &Layout, _i: usize) -> bool {
+    fn rests_right(self, _sheet: &Layout, _i: usize) -> bool {
         true
     }
 }
@@ -311,15 +311,15 @@ pub(crate) impl Tried for Setting as SettingTried {
 pub(crate) impl Tried for Question as QuestionTried {
     ghost checks = { question-checks };
 
-    fn names(self, sheet: &Layout, _i: usize) -> bool {
+    fn names_right(self, sheet: &Layout, _i: usize) -> bool {
         is_condition_node(sheet, self.node)
     }
 
-    fn free(self, _sheet: &Layout, _i: usize) -> bool {
+    fn clash_free(self, _sheet: &Layout, _i: usize) -> bool {
         true
     }
 
-    fn low(self, _sheet: &Layout, _i: usize) -> bool {
+    fn rests_right(self, _sheet: &Layout, _i: usize) -> bool {
         true
     }
 }

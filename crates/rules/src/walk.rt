@@ -75,21 +75,21 @@ fn try_row<const N: usize, R: FromRow<N> + Tried>(
             row: i,
         }),
         Entry::Holds(x) => {
-            if !x.names(sheet, i) {
+            if !x.names_right(sheet, i) {
                 return Err(Refusal {
                     reason: Reason::WrongByReference,
                     section,
                     row: i,
                 });
             }
-            if !x.free(sheet, i) {
+            if !x.clash_free(sheet, i) {
                 return Err(Refusal {
                     reason: Reason::Clash,
                     section,
                     row: i,
                 });
             }
-            if !x.low(sheet, i) {
+            if !x.rests_right(sheet, i) {
                 return Err(Refusal {
                     reason: Reason::ForbiddenResting,
                     section,

@@ -6,3 +6,4 @@ pub mod Lookups
 pub mod Meaning
 pub mod Rested
 pub mod Shapes
+pub mod Tables

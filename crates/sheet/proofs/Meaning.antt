@@ -49,13 +49,13 @@ module _ {X : Type 0} (s i : ℕ) (checks : X → Checks) where
   row-passes : (e : Entry X) (x : X) → first-fault (entry-tries s i checks e) ≡ None → e ≡ Holds x → Passes (checks x)
   row-passes e x h f =
       let all : first-fault (entry-tries s i checks (Holds x)) ≡ None = sym (ap (λ e. first-fault (entry-tries s i checks e)) f) ∙ h in
-      let a = or-else-parts (must (checks x .names) (refusal WrongByReference s i)) _ all in
-      let b = or-else-parts (must (checks x .free) (refusal Clash s i)) _ (a .1) in
-      let c = or-else-parts (must (checks x .low) (refusal ForbiddenResting s i)) None (b .1) in
+      let a = or-else-parts (must (checks x .names-right) (refusal WrongByReference s i)) _ all in
+      let b = or-else-parts (must (checks x .clash-free) (refusal Clash s i)) _ (a .1) in
+      let c = or-else-parts (must (checks x .rests-right) (refusal ForbiddenResting s i)) None (b .1) in
       record {
-        names = must-passed (checks x .names) _ (a .0);
-        free = must-passed (checks x .free) _ (b .0);
-        low = must-passed (checks x .low) _ (c .0);
+        names-right = must-passed (checks x .names-right) _ (a .0);
+        clash-free = must-passed (checks x .clash-free) _ (b .0);
+        rests-right = must-passed (checks x .rests-right) _ (c .0);
       }
 
   row-right : (e : Entry X) → (e ≡ Faulty → ⊥) → ((x : X) → e ≡ Holds x → Passes (checks x)) → first-fault (entry-tries s i checks e) ≡ None
@@ -63,7 +63,7 @@ module _ {X : Type 0} (s i : ℕ) (checks : X → Checks) where
   row-right Faulty n p = absurd (n refl)
   row-right (Holds x) n p =
       let q = p x refl in
-      rw (must-pass (checks x .names) (refusal WrongByReference s i) (q .names), must-pass (checks x .free) (refusal Clash s i) (q .free), must-pass (checks x .low) (refusal ForbiddenResting s i) (q .low))
+      rw (must-pass (checks x .names-right) (refusal WrongByReference s i) (q .names-right), must-pass (checks x .clash-free) (refusal Clash s i) (q .clash-free), must-pass (checks x .rests-right) (refusal ForbiddenResting s i) (q .rests-right))
 
 -- ---- one section
 

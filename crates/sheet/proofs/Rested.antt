@@ -7,7 +7,6 @@ use mathlib.Core.Logic.{_⊎_, inl, inr, ⊎-elim}
 use mathlib.Core.Path.{_≡_, refl, sym, ap, _∙_}
 use lib.Dec.{eqb, ltb}
 use lib.ListN.{length, getD}
-use Rattle.std.proofs.shelf.Lists.{length-push, getD-push, getD-append-left, getD-past}
 use Rattle.std.proofs.shelf.Tests.{false≢true, and-parts, or-cases, or-left, or-right, eqb-true, eq-eqb, ltb-true, cases-lt}
 use Rattle.std.specs.Orderings.{Decides}
 use Rattle.std.specs.declared.option.Option.{Option}
@@ -24,6 +23,7 @@ use Rattle.sheet.specs.Accept.{accepted}
 use Rattle.sheet.specs.Laws.{Resting-is-reaching}
 use Rattle.sheet.proofs.Firsts.{no-pass}
 use Rattle.sheet.proofs.Meaning.{keeps-the-rules}
+use Rattle.sheet.proofs.Tables.{grow-at, grow-past}
 
 -- ---- tests on what may be there
 
@@ -56,25 +56,11 @@ operand-marked ms (b ∷ os) o a h =
     (or-cases (eqb o b) (among o os) a)
 
 module _ (ns : List Row) (t : Target) where
-  -- ---- the table
-
-  length-marks : (n : ℕ) → length (marks ns t n) ≡ n
-  length-marks zero = refl
-  length-marks (suc n) = length-push (marks ns t n) (mark ns t n (marks ns t n)) ∙ omega (arith, length-marks n)
-
-  marks-at : (n o : ℕ) → o < n → getD (marks ns t n) o false ≡ mark ns t o (marks ns t o)
-  marks-at zero o l = absurd (omega arith)
-  marks-at (suc n) o l =
-      ⊎-elim
-      (λ (below : o < n). getD-append-left (marks ns t n) (mark ns t n (marks ns t n) ∷ []) false o (omega (arith, length-marks n)) ∙ marks-at n o below)
-      (λ (up : n ≤ o). let same : o ≡ n = omega arith in rw same (getD-push (marks ns t n) (mark ns t n (marks ns t n)) false n (length-marks n)))
-      (cases-lt o n)
-
   marked-below : (n o : ℕ) → getD (marks ns t n) o false ≡ true → o < n
   marked-below n o h =
       ⊎-elim
       (λ (l : o < n). l)
-      (λ (l : n ≤ o). absurd (false≢true (sym (getD-past (marks ns t n) o false (omega (arith, length-marks n))) ∙ h)))
+      (λ (l : n ≤ o). absurd (false≢true (sym (grow-past (mark ns t) n o false l) ∙ h)))
       (cases-lt o n)
 
   -- ---- a mark comes from a node that is reached
@@ -92,7 +78,7 @@ module _ (ns : List Row) (t : Target) where
       (λ (e : any-marked (marks ns t n) (operands x) ≡ true).
       let q = marked-operand (marks ns t n) (operands x) e in
       let below = marked-below n (q .0) (q .2) in
-      further n (q .0) x (p .1) (q .1) (mark-rests k (q .0) (omega arith) (sym (marks-at n (q .0) below) ∙ q .2)))
+      further n (q .0) x (p .1) (q .1) (mark-rests k (q .0) (omega arith) (sym (grow-at (mark ns t) n (q .0) false below) ∙ q .2)))
       (or-cases (hits t n x) (any-marked (marks ns t n) (operands x)) (p .2))
 
   -- ---- and a node that is reached gives a mark, where operands have lower numbers
@@ -101,7 +87,7 @@ module _ (ns : List Row) (t : Target) where
     reached-mark : {n m : ℕ} → Reaches ns n m → (x : Node) → there node-entry ns m ≡ Some x → hits t m x ≡ true → mark ns t n (marks ns t n) ≡ true
     reached-mark {n} itself x e h = is-from (there node-entry ns n) (λ x. hits t n x || any-marked (marks ns t n) (operands x)) x e (or-left (hits t n x) (any-marked (marks ns t n) (operands x)) h)
     reached-mark {n} (through {o = o} {x = y} d a r) x e h =
-        let m = marks-at n o (lower n o y d a) ∙ reached-mark r x e h in
+        let m = grow-at (mark ns t) n o false (lower n o y d a) ∙ reached-mark r x e h in
         is-from (there node-entry ns n) (λ x. hits t n x || any-marked (marks ns t n) (operands x)) y d (or-right (hits t n y) (any-marked (marks ns t n) (operands y)) (operand-marked (marks ns t n) (operands y) o a m))
 
     pub mark-decides : (n : ℕ) → Decides (mark ns t n (marks ns t n)) (Rests-on ns t n)
@@ -141,4 +127,4 @@ module _ (s : Sheet) (n o : ℕ) where
 
 pub resting-is-reaching : (s : Sheet) → accepted s ≡ true → Resting-is-reaching s
 resting-is-reaching s a t n =
-    mark-decides (rows s nodes) t (λ k o x e i. operand-below s k o x (keeps-the-rules s a .nodes-right .passes k x e .names) i) n
+    mark-decides (rows s nodes) t (λ k o x e i. operand-below s k o x (keeps-the-rules s a .nodes-right .passes k x e .names-right) i) n

@@ -76,9 +76,9 @@ abbrev pub entry-tries : {X : Type 0} → (section row : ℕ) → (X → Checks)
 entry-tries s i checks Blank = []
 entry-tries s i checks Faulty = Some (refusal WrongByItself s i) ∷ []
 entry-tries s i checks (Holds x) =
-    must (checks x .names) (refusal WrongByReference s i)
-    ∷ must (checks x .free) (refusal Clash s i)
-    ∷ must (checks x .low) (refusal ForbiddenResting s i)
+    must (checks x .names-right) (refusal WrongByReference s i)
+    ∷ must (checks x .clash-free) (refusal Clash s i)
+    ∷ must (checks x .rests-right) (refusal ForbiddenResting s i)
     ∷ []
 
 -- the tries of a section's rows, each with its index

@@ -36,9 +36,9 @@ Reads-back s = accept (bytes-of s) ≡ Ok s
 
 -- What a row holds passes its checks.
 pub record Passes (c : Checks) : Type 0 where
-  pub names : c .names ≡ true
-  pub free : c .free ≡ true
-  pub low : c .low ≡ true
+  pub names-right : c .names-right ≡ true
+  pub clash-free : c .clash-free ≡ true
+  pub rests-right : c .rests-right ≡ true
 
 -- The rows of a section keep its rules: none is faulty by itself, and what each row holds passes.
 pub record Right {X : Type 0} (entry : Row → Entry X) (checks : ℕ → X → Checks) (rs : List Row) : Type 0 where

@@ -5,5 +5,6 @@ pub mod Lookup
 pub mod Resting
 pub mod Rules
 pub mod Sections
+pub mod Tables
 pub mod Tries
 pub mod Typed

@@ -8,13 +8,14 @@ use Rattle.std.specs.declared.option.Option.the-variants.{Some, None}
 use Rattle.sheet.specs.declared.rows.Entry.{Entry}
 use Rattle.sheet.specs.declared.rows.Entry.the-variants.{Blank, Faulty, Holds}
 use Rattle.sheet.specs.declared.rows.Component.{Component}
+use Rattle.sheet.specs.declared.rows.Connection.{Connection}
 use Rattle.sheet.specs.declared.rows.Element.{Element}
 use Rattle.sheet.specs.declared.rows.Event.{Event}
 use Rattle.sheet.specs.declared.rows.Node.{Node}
 use Rattle.sheet.specs.declared.rows.Transition.{Transition}
 use Rattle.sheet.specs.declared.rows.Question.{Question}
-use Rattle.sheet.specs.Sections.{Row, Sheet, rows, components, elements, events, nodes, transitions, questions}
-use Rattle.sheet.specs.Typed.{component-entry, element-entry, event-entry, node-entry, transition-entry, question-entry}
+use Rattle.sheet.specs.Sections.{Row, Sheet, rows, components, elements, events, nodes, connections, transitions, questions}
+use Rattle.sheet.specs.Typed.{component-entry, element-entry, event-entry, node-entry, connection-entry, transition-entry, question-entry}
 
 -- what a row holds, if anything
 abbrev pub held : {X : Type 0} → Entry X → Option X
@@ -45,6 +46,9 @@ node-at s i = there node-entry (rows s nodes) i
 
 abbrev pub transition-at : Sheet → ℕ → Option Transition
 transition-at s i = there transition-entry (rows s transitions) i
+
+abbrev pub connection-at : Sheet → ℕ → Option Connection
+connection-at s i = there connection-entry (rows s connections) i
 
 abbrev pub question-at : Sheet → ℕ → Option Question
 question-at s i = there question-entry (rows s questions) i

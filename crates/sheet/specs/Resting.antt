@@ -1,8 +1,8 @@
 -- What a node rests on: itself, the element or mode that it names, and all that its operand nodes rest on. It does not
 -- go on from a port to the port's flows.
-use Prim.Native.Nat.{ℕ, zero, suc, _<_}
+use Prim.Native.Nat.{ℕ}
 use mathlib.Core.Bool.{Bool, true, false, _&&_, _||_}
-use mathlib.Core.List.{List, [], _∷_, _++_}
+use mathlib.Core.List.{List, [], _∷_}
 use mathlib.Core.Path.{_≡_}
 use lib.Dec.{eqb, leb}
 use lib.ListN.{getD}
@@ -13,6 +13,7 @@ use Rattle.sheet.specs.declared.rows.Node.the-variants.{Constant, Element as R
 use Rattle.sheet.specs.declared.rows.Target.{Target}
 use Rattle.sheet.specs.declared.rows.Target.the-variants.{Node as ThatNode, Element as ThatElement, ElementFrom, Mode, AnyMode}
 use Rattle.sheet.specs.Sections.{Row, Sheet, rows, nodes}
+use Rattle.sheet.specs.Tables.{grow, cell}
 use Rattle.sheet.specs.Typed.{node-entry}
 use Rattle.sheet.specs.Lookup.{there, is}
 
@@ -74,12 +75,11 @@ mark ns t n marks = is (there node-entry ns n) (λ x. hits t n x || any-marked m
 
 -- The marks of the first n nodes, each worked out once.
 abbrev pub marks : List Row → Target → ℕ → List Bool
-marks ns t zero = []
-marks ns t (suc n) = marks ns t n ++ (mark ns t n (marks ns t n) ∷ [])
+marks ns t n = grow (mark ns t) n
 
 -- Node n rests on the target.
 abbrev pub rests : Sheet → Target → ℕ → Bool
-rests s t n = mark (rows s nodes) t n (marks (rows s nodes) t n)
+rests s t n = cell (mark (rows s nodes) t) n
 
 -- ---- what resting means
 

@@ -31,12 +31,12 @@ use Rattle.sheet.specs.Resting.{rests}
 
 -- The three tests of a row.
 pub record Checks : Type 0 where
-  pub names : Bool
-  pub free : Bool
-  pub low : Bool
+  pub names-right : Bool
+  pub clash-free : Bool
+  pub rests-right : Bool
 
 abbrev pub only-names : Bool → Checks
-only-names b = record { names = b; free = true; low = true }
+only-names b = record { names-right = b; clash-free = true; rests-right = true }
 
 -- ---- what a row can name
 
@@ -138,9 +138,9 @@ flows-clash x y = eqb (x .port) (y .port) && share-mode (x .modes) (y .modes)
 abbrev pub flow-checks : Sheet → ℕ → Flow → Checks
 flow-checks s i x =
     record {
-      names = is (element-at s (x .port)) (λ p. is-port p && has-modes s (p .component) (x .modes)) && value-node s (x .node);
-      free = clear-of-earlier flow-entry flows-clash (rows s flows) i x;
-      low = not (rests s (ElementFrom (x .port)) (x .node));
+      names-right = is (element-at s (x .port)) (λ p. is-port p && has-modes s (p .component) (x .modes)) && value-node s (x .node);
+      clash-free = clear-of-earlier flow-entry flows-clash (rows s flows) i x;
+      rests-right = not (rests s (ElementFrom (x .port)) (x .node));
     }
 
 -- an out event and an in event of different components
@@ -161,9 +161,9 @@ event-of s c (Some v) = is (event-at s v) (λ y. eqb (y .component) c)
 abbrev pub transition-checks : Sheet → ℕ → Transition → Checks
 transition-checks s i x =
     record {
-      names = has-mode s (x .component) (x .from) && (has-mode s (x .component) (x .to) && (event-of s (x .component) (x .event) && condition-node s (x .guard)));
-      free = true;
-      low = not (rests s AnyMode (x .guard));
+      names-right = has-mode s (x .component) (x .from) && (has-mode s (x .component) (x .to) && (event-of s (x .component) (x .event) && condition-node s (x .guard)));
+      clash-free = true;
+      rests-right = not (rests s AnyMode (x .guard));
     }
 
 -- a held element of the component of a transition
@@ -179,9 +179,9 @@ settings-clash x y = eqb (x .transition) (y .transition) && eqb (x .element) (y 
 abbrev pub setting-checks : Sheet → ℕ → Setting → Checks
 setting-checks s i x =
     record {
-      names = settable (transition-at s (x .transition)) (element-at s (x .element)) && value-node s (x .node);
-      free = clear-of-earlier setting-entry settings-clash (rows s settings) i x;
-      low = true;
+      names-right = settable (transition-at s (x .transition)) (element-at s (x .element)) && value-node s (x .node);
+      clash-free = clear-of-earlier setting-entry settings-clash (rows s settings) i x;
+      rests-right = true;
     }
 
 -- A question is a condition node.

@@ -38,5 +38,5 @@ pub const MOST_QUESTIONS: u8 = 16;
 
 // The number of sections.
 pub const SECTIONS: usize = 9;
-// The bytes of the longest sheet.
-pub const LONGEST_SHEET: usize = 2489;
+// The most bytes that a program reads of a sheet: more than the longest sheet, which has 2,489.
+pub const INPUT_LIMIT: usize = 2500;

@@ -1,23 +1,15 @@
-use Prim.Native.Nat.{ℕ, _+_, _-_, _<_}
-use native.Mathlib.Numerals.{add-one}
+use Prim.Native.Nat.{ℕ, _-_, _<_}
 use native.Mathlib.Omega.{arith}
-use mathlib.Core.Bool.{Bool}
-use mathlib.Core.List.{List, [], _∷_, _++_}
-use mathlib.Core.Path.{_≡_, refl, sym, ap, _∙_}
+use mathlib.Core.Path.{_≡_, sym, ap, _∙_}
 use lib.ListN.{length, take}
-use borrow.Author.Needs.{needs}
 use Rattle.std.proofs.shelf.Lists.{length-set, take-more-set}
-use Rattle.sheet.specs.declared.rows.Target.{Target}
-use Rattle.sheet.specs.Sections.{Row}
 use Rattle.sheet.specs.Resting.{mark, marks}
+use Rattle.sheet.proofs.Tables.{grow-more}
 use Rattle.rules.proofs.resting.rests_on.Needs as need
 
 -- the length of a part from the start on
 from-start : (n : ℕ) → n - 0 ≡ n
 from-start n = omega arith
-
-marks-more : (ns : List Row) (t : Target) (i : ℕ) (tab : List Bool) (m : Bool) → tab ≡ marks ns t i → m ≡ mark ns t i tab → tab ++ (m ∷ []) ≡ marks ns t (i + 1)
-marks-more ns t i tab m e h = rw add-one ((λ j. tab ++ (h j ∷ [])) ∙ ap (λ l. l ++ (mark ns t i l ∷ [])) e)
 
 pub loop-i-again : need.loop-i-again
 loop-i-again c =
@@ -26,7 +18,7 @@ loop-i-again c =
     let m = c .mark-of-m .result in
     let inside : i < length table = omega (arith, c .loop-i .inv .0, c .fits .n .fits) in (
       length-set table i m ∙ c .loop-i .inv .0,
-      take-more-set table i m inside ∙ marks-more (c .args .nodes .now) (c .args .target) i (take i table) m (c .loop-i .inv .1) (c .mark-of-m .ensures ∙ ap (λ k. mark (c .args .nodes .now) (c .args .target) i (take k table)) (from-start i)),
+      take-more-set table i m inside ∙ grow-more (mark (c .args .nodes .now) (c .args .target)) i (take i table) m (c .loop-i .inv .1) (c .mark-of-m .ensures ∙ ap (λ k. mark (c .args .nodes .now) (c .args .target) i (take k table)) (from-start i)),
     )
 
 pub returns : need.returns
