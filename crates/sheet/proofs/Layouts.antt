@@ -52,7 +52,7 @@ bytes-from [] h = refl
 bytes-from (b ∷ bs) h = and-from (ltb b 256) (bytes bs) (lt-ltb b 256 (h 0 .fits)) (bytes-from bs (λ i. h (suc i)))
 
 -- the length of the first row, and the other rows
-wide-parts : (w : ℕ) (r : Row) (rs : List Row) → wide w (r ∷ rs) ≡ true → (length r ≡ w) × (wide w rs ≡ true)
+pub wide-parts : (w : ℕ) (r : Row) (rs : List Row) → wide w (r ∷ rs) ≡ true → (length r ≡ w) × (wide w rs ≡ true)
 wide-parts w r rs h =
     let p = and-parts (eqb (length r) w && bytes r) (wide w rs) h in
     (eqb-true (length r) w (and-parts (eqb (length r) w) (bytes r) (p .0) .0), p .1)

@@ -5,8 +5,8 @@ use native.Mathlib.Omega.{arith}
 use mathlib.Core.List.{List, [], _∷_, _++_}
 use mathlib.Core.Logic.{⊎-elim}
 use mathlib.Core.Path.{_≡_, refl, sym, ap, _∙_}
-use lib.ListN.{length, getD}
-use Rattle.std.proofs.shelf.Lists.{length-push, getD-push, getD-append-left, getD-past}
+use lib.ListN.{length, getD, take}
+use Rattle.std.proofs.shelf.Lists.{length-push, getD-push, getD-append-left, getD-past, take-append-le, take-all}
 use Rattle.std.proofs.shelf.Tests.{cases-lt}
 use Rattle.sheet.specs.Tables.{grow, cell}
 
@@ -31,3 +31,12 @@ module _ {X : Type 0} (f : ℕ → List X → X) where
   -- one cell more
   pub grow-more : (i : ℕ) (t : List X) (x : X) → t ≡ grow f i → x ≡ f i t → t ++ (x ∷ []) ≡ grow f (i + 1)
   grow-more i t x e h = rw add-one ((λ j. t ++ (h j ∷ [])) ∙ ap (λ l. l ++ (f i l ∷ [])) e)
+
+  -- the first cells of a longer table
+  pub take-grow : (n k : ℕ) → k ≤ n → take k (grow f n) ≡ grow f k
+  take-grow zero k l = let none : k ≡ 0 = omega arith in rw none
+  take-grow (suc n) k l =
+      ⊎-elim
+      (λ (below : k < suc n). take-append-le k (grow f n) (f n (grow f n) ∷ []) (omega (arith, length-grow n)) ∙ take-grow n k (omega arith))
+      (λ (all : suc n ≤ k). let same : k ≡ suc n = omega arith in rw same (take-all (suc n) (grow f (suc n)) (omega (arith, length-grow (suc n)))))
+      (cases-lt k (suc n))

@@ -12,10 +12,12 @@ use Rattle.sheet.specs.declared.rows.Connection.{Connection}
 use Rattle.sheet.specs.declared.rows.Element.{Element}
 use Rattle.sheet.specs.declared.rows.Event.{Event}
 use Rattle.sheet.specs.declared.rows.Node.{Node}
+use Rattle.sheet.specs.declared.rows.Flow.{Flow}
+use Rattle.sheet.specs.declared.rows.Setting.{Setting}
 use Rattle.sheet.specs.declared.rows.Transition.{Transition}
 use Rattle.sheet.specs.declared.rows.Question.{Question}
-use Rattle.sheet.specs.Sections.{Row, Sheet, rows, components, elements, events, nodes, connections, transitions, questions}
-use Rattle.sheet.specs.Typed.{component-entry, element-entry, event-entry, node-entry, connection-entry, transition-entry, question-entry}
+use Rattle.sheet.specs.Sections.{Row, Sheet, rows, components, elements, events, nodes, flows, connections, transitions, settings, questions}
+use Rattle.sheet.specs.Typed.{component-entry, element-entry, event-entry, node-entry, flow-entry, connection-entry, transition-entry, setting-entry, question-entry}
 
 -- what a row holds, if anything
 abbrev pub held : {X : Type 0} → Entry X → Option X
@@ -47,8 +49,14 @@ node-at s i = there node-entry (rows s nodes) i
 abbrev pub transition-at : Sheet → ℕ → Option Transition
 transition-at s i = there transition-entry (rows s transitions) i
 
+abbrev pub flow-at : Sheet → ℕ → Option Flow
+flow-at s i = there flow-entry (rows s flows) i
+
 abbrev pub connection-at : Sheet → ℕ → Option Connection
 connection-at s i = there connection-entry (rows s connections) i
+
+abbrev pub setting-at : Sheet → ℕ → Option Setting
+setting-at s i = there setting-entry (rows s settings) i
 
 abbrev pub question-at : Sheet → ℕ → Option Question
 question-at s i = there question-entry (rows s questions) i

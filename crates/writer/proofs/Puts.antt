@@ -1,5 +1,5 @@
 -- Putting one thing behind the other.
-use Prim.Native.Nat.{ℕ, zero, suc, _+_, _-_, _≤_, _<_}
+use Prim.Native.Nat.{ℕ, _+_, _-_, _≤_, _<_}
 use native.Mathlib.Omega.{arith}
 use mathlib.Core.List.{List, [], _∷_, _++_, append-assoc}
 use mathlib.Core.Path.{_≡_, refl, sym, ap, _∙_}
@@ -7,9 +7,6 @@ use lib.ListN.{length, take, drop, getD}
 use Rattle.std.proofs.shelf.Lists.{take-at, drop-at, drop-drop, take-all, take-more, take-append-drop, length-append, length-drop, length-take-le}
 use borrow.Rule.Slice.PartMut.{putMid, post-is}
 use Rattle.std.specs.shelf.Lists.{joined}
-use Rattle.std.specs.shelf.Maps.{nth}
-use Rattle.std.specs.declared.option.Option.{Option}
-use Rattle.std.specs.declared.option.Option.the-variants.{Some, None}
 use Rattle.sheet.proofs.Joins.{joined-take-more, joined-front}
 use Rattle.writer.specs.Written.{over, Put}
 
@@ -52,17 +49,6 @@ pub put-front : (bs was out : List ℕ) (p : ℕ) → Put bs was 0 out p → (p 
 put-front bs was out p f = (omega (arith, f .place), f .holds ∙ ap (λ k. bs ++ drop k was) (omega arith))
 
 -- ---- a row byte by byte
-
--- what a byte of a row says of its place
-pub byte-there : (xs : List ℕ) (i b : ℕ) → Some b ≡ nth xs i → (i < length xs) × (getD xs i 0 ≡ b)
-byte-there [] i b e = absurd (let z : _≡_ {A = ℕ} 0 1 = cc in omega arith)
-byte-there (x ∷ xs) zero b e = (omega arith, cc)
-byte-there (x ∷ xs) (suc i) b e = let p = byte-there xs i b e in (omega (arith, p .0), p .1)
-
-pub byte-missing : (xs : List ℕ) (i : ℕ) → _≡_ {A = Option ℕ} None (nth xs i) → length xs ≤ i
-byte-missing [] i e = omega arith
-byte-missing (x ∷ xs) zero e = absurd (let z : _≡_ {A = ℕ} 0 1 = cc in omega arith)
-byte-missing (x ∷ xs) (suc i) e = let p = byte-missing xs i e in omega arith
 
 module _ (xs was : List ℕ) (a : ℕ) (room : a + length xs ≤ length was) (i : ℕ) (out : List ℕ) (p : ℕ) (sofar : Put (take i xs) was a out p) where
   -- one more byte has room

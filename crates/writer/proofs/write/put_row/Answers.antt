@@ -4,7 +4,8 @@ use lib.ListN.{getD}
 use Rattle.std.proofs.shelf.Lists.{length-take-le}
 use Rattle.sheet.specs.Sections.{rows}
 use Rattle.reader.specs.Means.{rows-held}
-use Rattle.writer.proofs.Puts.{put-none, byte-there, byte-missing, byte-room, byte-more, bytes-end}
+use Rattle.sheet.proofs.Lookups.{byte-there, byte-missing}
+use Rattle.writer.proofs.Puts.{put-none, byte-room, byte-more, bytes-end}
 use Rattle.writer.proofs.write.put_row.Needs as need
 
 pub loop-b-holds : need.loop-b-holds
