@@ -4,9 +4,9 @@ use mathlib.Core.Bool.{Bool, true, false, cond, not, _&&_, _||_}
 use mathlib.Core.List.{List, [], _∷_, _++_, map}
 use mathlib.Core.Path.{_≡_}
 use lib.Dec.{eqb}
-use lib.IntN.{ℤ}
-use lib.ListN.{set}
-use Rattle.std.specs.Options.{isSome}
+use lib.IntN.{ℤ, pos}
+use lib.ListN.{getD, set}
+use Rattle.std.specs.Options.{isSome, mapped}
 use Rattle.std.specs.declared.option.Option.{Option}
 use Rattle.std.specs.declared.option.Option.the-variants.{Some, None}
 use Rattle.std.specs.declared.result.Result.{Result}
@@ -21,12 +21,13 @@ use Rattle.sheet.specs.Rules.{goes-out}
 use Rattle.sheet.specs.Sections.{Row, Sheet, rows, connections, settings}
 use Rattle.sheet.specs.Tries.{Try, must, first-fault}
 use Rattle.sheet.specs.Typed.{connection-entry, setting-entry}
+use Rattle.running.specs.declared.kinds.NoQuestion.{NoQuestion}
 use Rattle.running.specs.declared.kinds.Step.{Step}
 use Rattle.running.specs.declared.kinds.Step.the-variants.{Alone, Pair}
 use Rattle.running.specs.declared.kinds.StepRefusal.{StepRefusal}
 use Rattle.running.specs.declared.kinds.StepRefusal.the-variants.{NoTransition, NoStep, OtherMode, NotConnected, GuardFalse}
 use Rattle.running.specs.States.{State, mode-of, start-state}
-use Rattle.running.specs.Values.{bring, lists, number-in, truth-in, node-value}
+use Rattle.running.specs.Values.{bring, lists, number-in, truth-in, values, node-value}
 
 -- The number of each refusal of a step, and the transition that it names.
 abbrev pub step-number : StepRefusal → ℕ
@@ -186,10 +187,22 @@ pub data Reached (s : Sheet) : State → Type 0 where
 
 -- ---- answers
 
-abbrev pub answered : Sheet → State → ℕ → Option Question → Result Bool ℕ
-answered s w q None = Err q
+-- the number of the refusal of a question
+abbrev pub no-question-number : NoQuestion → ℕ
+no-question-number f = 13
+
+abbrev pub answered : Sheet → State → ℕ → Option Question → Result Bool NoQuestion
+answered s w q None = Err (record { question = q })
 answered s w q (Some x) = Ok (truth-in (node-value s w (x .node)))
 
 -- The truth of a question in a state; where it is missing or blank, that question.
-abbrev pub answer-of : Sheet → State → ℕ → Result Bool ℕ
+abbrev pub answer-of : Sheet → State → ℕ → Result Bool NoQuestion
 answer-of s w q = answered s w q (question-at s q)
+
+-- The mode of a component, or nothing where there is none.
+abbrev pub mode-at : Sheet → State → ℕ → Option ℕ
+mode-at s w c = mapped (λ x. mode-of w c) (component-at s c)
+
+-- The value of an element, ports included, or nothing where it is missing or blank.
+abbrev pub value-at : Sheet → State → ℕ → Option ℤ
+value-at s w e = mapped (λ x. getD (values s w) e (pos 0)) (element-at s e)

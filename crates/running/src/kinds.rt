@@ -30,3 +30,9 @@ pub enum Worth {
     Number(i32),
     Truth(bool),
 }
+
+// The question is missing or blank: 13.
+#[derive(Clone, Copy, PartialEq, Eq, Debug)]
+pub struct NoQuestion {
+    pub question: usize,
+}

@@ -111,7 +111,8 @@ pub(crate) fn connection<V: View>(view: &V, i: usize) -> Option<Connection>
     typed::<CONNECTION_BYTES, Connection, V>(view, 5, i)
 }
 
-pub(crate) fn transition<V: View>(view: &V, i: usize) -> Option<Transition>
+// The transition of a row.
+pub fn transition<V: View>(view: &V, i: usize) -> Option<Transition>
     requires { ⌜ V·View .fits (now view) ⌝ }
     ensures { λ r. ⌜ r ≡ transition-at (V·View .rows (now (view .entry))) i ⌝ }
 {

@@ -33,7 +33,7 @@ fn worth_at(table: &[Worth], n: u8) -> Worth
     if n < table.len() { table[n] } else { Worth::Number(0) }
 }
 
-fn number_at(table: &[Worth], n: u8) -> i32
+pub(crate) fn number_at(table: &[Worth], n: u8) -> i32
     ensures { λ r. ⌜ r ≡ number-in (getD (now (table .entry)) n nothing) ⌝ }
 {
     match worth_at(table, n) {
@@ -42,7 +42,7 @@ fn number_at(table: &[Worth], n: u8) -> i32
     }
 }
 
-fn truth_at(table: &[Worth], n: u8) -> bool
+pub(crate) fn truth_at(table: &[Worth], n: u8) -> bool
     ensures { λ r. ⌜ r ≡ truth-in (getD (now (table .entry)) n nothing) ⌝ }
 {
     match worth_at(table, n) {
@@ -51,10 +51,10 @@ fn truth_at(table: &[Worth], n: u8) -> bool
     }
 }
 
-fn value_at(values: &[i32], e: u8) -> i32
+// The value of element e; 0 where there is none.
+pub(crate) fn value_at(values: &[i32], e: usize) -> i32
     ensures { λ r. ⌜ r ≡ getD (now (values .entry)) e (pos 0) ⌝ }
 {
-    let e = e as usize;
     if e < values.len() { values[e] } else { 0 }
 }
 
@@ -65,7 +65,7 @@ fn evaluate<V: View>(view: &V, values: &[i32], before: &[Worth], node: Node) -> 
 {
     match node {
         Node::Constant(z) => Worth::Number(z),
-        Node::Element(e) => Worth::Number(value_at(values, e)),
+        Node::Element(e) => Worth::Number(value_at(values, e as usize)),
         Node::Sum(a, b) => Worth::Number(sum_of(number_at(before, a), number_at(before, b))),
         Node::Difference(a, b) => Worth::Number(difference_of(number_at(before, a), number_at(before, b))),
         Node::True => Worth::Truth(true),
@@ -102,7 +102,7 @@ fn worths<V: View>(view: &V, values: &[i32]) -> [Worth; NODE_SLOTS]
 }
 
 // Whether a mode is in the set.
-fn lists_mode(set: ModeSet, mode: u8) -> bool
+pub(crate) fn lists_mode(set: ModeSet, mode: u8) -> bool
     ensures { λ r. ⌜ r ≡ lists set mode ⌝ }
 {
     mode < 16 && (set >> mode) % 2 == 1

@@ -1,0 +1,48 @@
+// What is told of a state: modes, values, and the truth of questions.
+
+ghost use mathlib.Core.Path.{_≡_};
+ghost use Rattle.running.specs.Steps.{answer-of, mode-at, value-at};
+use crate::typed::component;
+use crate::typed::element;
+use crate::typed::question;
+use crate::values::element_values;
+use crate::values::node_values;
+use crate::values::truth_at;
+use crate::values::value_at;
+use crate::view::View;
+use running::kinds::NoQuestion;
+
+// The mode of a component, or nothing where there is none.
+pub fn mode_of<V: View>(view: &V, c: usize) -> Option<u8>
+    requires { ⌜ V·View .fits (now view) ⌝ }
+    ensures { λ r. ⌜ r ≡ mode-at (V·View .rows (now (view .entry))) (V·View .state (now (view .entry))) c ⌝ }
+{
+    match component(view, c) {
+        Some(_) => Some(view.mode(c)),
+        None => None,
+    }
+}
+
+// The value of an element, ports included, or nothing where it is missing or blank.
+pub fn value_of<V: View>(view: &V, e: usize) -> Option<i32>
+    requires { ⌜ V·View .fits (now view) ⌝ }
+    ensures { λ r. ⌜ r ≡ value-at (V·View .rows (now (view .entry))) (V·View .state (now (view .entry))) e ⌝ }
+{
+    let Some(_x) = element(view, e) else {
+        return None;
+    };
+    let values = element_values(view);
+    Some(value_at(&values, e))
+}
+
+// The truth of a question, or that it is missing or blank.
+pub fn answer_to<V: View>(view: &V, q: usize) -> Result<bool, NoQuestion>
+    requires { ⌜ V·View .fits (now view) ⌝ }
+    ensures { λ r. ⌜ r ≡ answer-of (V·View .rows (now (view .entry))) (V·View .state (now (view .entry))) q ⌝ }
+{
+    let Some(x) = question(view, q) else {
+        return Err(NoQuestion { question: q });
+    };
+    let table = node_values(view);
+    Ok(truth_at(&table, x.node))
+}
