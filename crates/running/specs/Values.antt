@@ -108,6 +108,10 @@ element-cell s w e t = element-value s w e t (element-at s e)
 abbrev pub values : Sheet → State → List ℤ
 values s w = grow (element-cell s w) (length (rows s elements))
 
+-- The value of element e in a state; 0 where there is none.
+abbrev pub value-of : Sheet → State → ℕ → ℤ
+value-of s w e = getD (values s w) e (pos 0)
+
 -- What node n gives in a state.
 abbrev pub node-value : Sheet → State → ℕ → Worth
 node-value s w n = node-over s w (values s w) n

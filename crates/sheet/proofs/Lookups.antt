@@ -1,16 +1,18 @@
 -- Rows by their numbers.
 use Prim.Native.Nat.{ℕ, zero, suc, _<_, _≤_}
 use native.Mathlib.Omega.{arith}
+use mathlib.Core.Bool.{Bool, true}
 use mathlib.Core.List.{List, [], _∷_}
 use mathlib.Core.Path.{_≡_, refl, sym, ap, _∙_}
 use lib.ListN.{length, getD}
 use Rattle.std.proofs.shelf.Maps.{nth-read, nth-past}
+use Rattle.std.proofs.shelf.Tests.{false≢true}
 use Rattle.std.specs.shelf.Maps.{nth}
 use Rattle.std.specs.declared.option.Option.{Option}
 use Rattle.std.specs.declared.option.Option.the-variants.{Some, None}
 use Rattle.sheet.specs.declared.rows.Entry.{Entry}
 use Rattle.sheet.specs.Sections.{Row}
-use Rattle.sheet.specs.Lookup.{held, read-by, there}
+use Rattle.sheet.specs.Lookup.{held, read-by, there, is}
 
 -- a row that is read holds what its bytes say
 pub there-read : {X : Type 0} (entry : Row → Entry X) (rs : List Row) (i : ℕ) (r : Row) → i < length rs → r ≡ getD rs i r → there entry rs i ≡ held (entry r)
@@ -30,3 +32,17 @@ pub byte-missing : (xs : List ℕ) (i : ℕ) → _≡_ {A = Option ℕ} None (nt
 byte-missing [] i e = omega arith
 byte-missing (x ∷ xs) zero e = absurd (let z : _≡_ {A = ℕ} 0 1 = cc in omega arith)
 byte-missing (x ∷ xs) (suc i) e = let p = byte-missing xs i e in omega arith
+
+-- ---- tests on what may be there
+
+-- what passes a test is there
+pub is-cases : {X : Type 0} (o : Option X) (p : X → Bool) → is o p ≡ true → (x : X) × (o ≡ Some x) × (p x ≡ true)
+is-cases None p e = absurd (false≢true e)
+is-cases (Some x) p e = (x, refl, e)
+
+-- what is there passes the test
+pub is-at : {X : Type 0} (o : Option X) (p : X → Bool) (x : X) → o ≡ Some x → is o p ≡ true → p x ≡ true
+is-at o p x e h = sym (ap (λ o. is o p) e) ∙ h
+
+pub is-from : {X : Type 0} (o : Option X) (p : X → Bool) (x : X) → o ≡ Some x → p x ≡ true → is o p ≡ true
+is-from o p x e h = ap (λ o. is o p) e ∙ h

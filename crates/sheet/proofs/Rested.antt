@@ -22,17 +22,9 @@ use Rattle.sheet.specs.Rules.{lower-value, lower-condition, value-node, condit
 use Rattle.sheet.specs.Accept.{accepted}
 use Rattle.sheet.specs.Laws.{Resting-is-reaching}
 use Rattle.sheet.proofs.Firsts.{no-pass}
+use Rattle.sheet.proofs.Lookups.{is-cases, is-from}
 use Rattle.sheet.proofs.Meaning.{keeps-the-rules}
 use Rattle.sheet.proofs.Tables.{grow-at, grow-past}
-
--- ---- tests on what may be there
-
-is-cases : {X : Type 0} (o : Option X) (p : X → Bool) → is o p ≡ true → (x : X) × (o ≡ Some x) × (p x ≡ true)
-is-cases None p e = absurd (false≢true e)
-is-cases (Some x) p e = (x, refl, e)
-
-is-from : {X : Type 0} (o : Option X) (p : X → Bool) (x : X) → o ≡ Some x → p x ≡ true → is o p ≡ true
-is-from o p x e h = ap (λ o. is o p) e ∙ h
 
 -- ---- a marked operand
 

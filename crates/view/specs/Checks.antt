@@ -4,7 +4,7 @@ use mathlib.Core.Bool.{Bool, true, false, cond, not, _&&_}
 use mathlib.Core.List.{List, [], _∷_}
 use lib.Dec.{eqb}
 use lib.IntN.{ℤ}
-use lib.ListN.{set}
+use lib.ListN.{getD, set}
 use Rattle.std.specs.Options.{isSome}
 use Rattle.std.specs.declared.option.Option.{Option}
 use Rattle.std.specs.declared.option.Option.the-variants.{Some, None}
@@ -14,11 +14,12 @@ use Rattle.sheet.specs.declared.rows.Transition.{Transition}
 use Rattle.sheet.specs.Lookup.{element-at, is}
 use Rattle.sheet.specs.Sections.{Sheet, rows, connections}
 use Rattle.sheet.specs.Tries.{Try, must, first-fault}
+use Rattle.running.specs.declared.kinds.Worth.{Worth}
 use Rattle.running.specs.declared.kinds.StepRefusal.{StepRefusal}
 use Rattle.running.specs.declared.kinds.StepRefusal.the-variants.{NoStep, OtherMode, NotConnected, GuardFalse}
 use Rattle.running.specs.States.{State, mode-of}
 use Rattle.running.specs.Steps.{sends, hears, any-carries, takes-part}
-use Rattle.running.specs.Values.{bring, number-in, truth-in, node-value}
+use Rattle.running.specs.Values.{bring, number-in, truth-in, nothing, node-value}
 
 abbrev pub is-in-from-mode : State → Transition → Bool
 is-in-from-mode w x = eqb (mode-of w (x .component)) (x .from)
@@ -53,14 +54,14 @@ pair-fault s w t h x y =
     ∷ must (has-true-guard s w y) (GuardFalse h)
     ∷ [])
 
--- What a setting changes, if its transition takes part: an element, and the value that it gets.
-abbrev pub new-value : Sheet → State → Setting → Option Element → Option (ℕ × ℤ)
-new-value s w x None = None
-new-value s w x (Some e) = Some (x .element, bring (e .lowest) (e .highest) (number-in (node-value s w (x .node))))
+-- What a setting changes, if its transition takes part: an element, and the value that it gets from what the nodes give.
+abbrev pub new-value : (nodes : List Worth) → Setting → Option Element → Option (ℕ × ℤ)
+new-value t x None = None
+new-value t x (Some e) = Some (x .element, bring (e .lowest) (e .highest) (number-in (getD t (x .node) nothing)))
 
-abbrev pub change-by : Sheet → State → List ℕ → Option Setting → Option (ℕ × ℤ)
-change-by s w ts None = None
-change-by s w ts (Some x) = cond (takes-part (x .transition) ts) (new-value s w x (element-at s (x .element))) None
+abbrev pub change-by : Sheet → (nodes : List Worth) → (parts : List ℕ) → Option Setting → Option (ℕ × ℤ)
+change-by s t ts None = None
+change-by s t ts (Some x) = cond (takes-part (x .transition) ts) (new-value t x (element-at s (x .element))) None
 
 -- values after a change
 abbrev pub changed : Option (ℕ × ℤ) → List ℤ → List ℤ

@@ -1,10 +1,7 @@
 // What a step changes.
 
-ghost use Prim.Native.Nat.{ℕ};
 ghost use mathlib.Core.Path.{_≡_};
-ghost use lib.ListN.{getD};
 ghost use Rattle.running.specs.Steps.{parts, takes-part};
-ghost use Rattle.running.specs.Values.{nothing, node-value};
 ghost use Rattle.sheet.specs.Lookup.{element-at, setting-at};
 ghost use Rattle.view.specs.Checks.{new-value, change-by};
 use crate::numbers::bring_into;
@@ -17,11 +14,10 @@ use running::kinds::Worth;
 use sheet::rows::Setting;
 
 // What the setting of a row changes if the step is made: an element, and the value that it gets. `worths` has what each
-// node gives in the state before the step.
+// node gives.
 pub fn setting_change<V: View>(view: &V, worths: &[Worth], step: Step, row: usize) -> Option<(usize, i32)>
-    requires fits { ⌜ V·View .fits (now view) ⌝ }
-    requires table { ⌜ ((n : ℕ) → getD (now worths) n nothing ≡ node-value (V·View .rows (now view)) (V·View .state (now view)) n) ⌝ }
-    ensures { λ r. ⌜ r ≡ change-by (V·View .rows (now (view .entry))) (V·View .state (now (view .entry))) (parts step) (setting-at (V·View .rows (now (view .entry))) row) ⌝ }
+    requires { ⌜ V·View .fits (now view) ⌝ }
+    ensures { λ r. ⌜ r ≡ change-by (V·View .rows (now (view .entry))) (now (worths .entry)) (parts step) (setting-at (V·View .rows (now (view .entry))) row) ⌝ }
 {
     let Some(x) = setting(view, row) else {
         return None;
@@ -34,9 +30,8 @@ pub fn setting_change<V: View>(view: &V, worths: &[Worth], step: Step, row: usiz
 
 // The element that a setting sets, and its new value.
 fn value_set<V: View>(view: &V, worths: &[Worth], x: Setting) -> Option<(usize, i32)>
-    requires fits { ⌜ V·View .fits (now view) ⌝ }
-    requires table { ⌜ ((n : ℕ) → getD (now worths) n nothing ≡ node-value (V·View .rows (now view)) (V·View .state (now view)) n) ⌝ }
-    ensures { λ r. ⌜ r ≡ new-value (V·View .rows (now (view .entry))) (V·View .state (now (view .entry))) x (element-at (V·View .rows (now (view .entry))) (x .element)) ⌝ }
+    requires { ⌜ V·View .fits (now view) ⌝ }
+    ensures { λ r. ⌜ r ≡ new-value (now (worths .entry)) x (element-at (V·View .rows (now (view .entry))) (x .element)) ⌝ }
 {
     let Some(e) = element(view, x.element as usize) else {
         return None;

@@ -6,9 +6,9 @@ ghost use mathlib.Core.List.{List};
 ghost use mathlib.Core.Path.{_≡_};
 ghost use Rattle.running.specs.States.{State, mode-of, held-of, is-held};
 ghost use Rattle.sheet.specs.Cells.{count-of, byte-of};
-ghost use Rattle.view.specs.Seen.{Sound};
+ghost use Rattle.sheet.specs.Accept.{accepted};
 
-// The rows of an accepted sheet and a state of it.
+// The rows of an accepted sheet, and modes and values.
 pub trait View {
     // The rows.
     ghost rows: { Self → List (List (List ℕ)) };
@@ -16,8 +16,8 @@ pub trait View {
     ghost state: { Self → State };
     // The tables behind the view fit.
     ghost fits: { Self → Type 0 };
-    // What fits shows an accepted sheet and a state of it.
-    law sound: { (x : Self) → fits x → Sound (rows x) (state x) };
+    // What fits shows an accepted sheet.
+    law sound: { (x : Self) → fits x → accepted (rows x) ≡ true };
 
     fn count(&self, section: usize) -> Option<usize>
         requires { ⌜ fits (now self) ⌝ }
