@@ -2,6 +2,7 @@
 
 ghost use mathlib.Core.Path.{_≡_};
 ghost use Rattle.running.specs.Steps.{answer-of, mode-at, value-at};
+ghost use Rattle.view.specs.Fit.{Fit};
 use crate::typed::component;
 use crate::typed::element;
 use crate::typed::question;
@@ -14,7 +15,7 @@ use running::kinds::NoQuestion;
 
 // The mode of a component, or nothing where there is none.
 pub fn mode_of<V: View>(view: &V, c: usize) -> Option<u8>
-    requires { ⌜ V·View .fits (now view) ⌝ }
+    requires { ⌜ Fit (V·View .fits (now view)) (V·View .rows (now view)) ⌝ }
     ensures { λ r. ⌜ r ≡ mode-at (V·View .rows (now (view .entry))) (V·View .state (now (view .entry))) c ⌝ }
 {
     match component(view, c) {
@@ -25,7 +26,7 @@ pub fn mode_of<V: View>(view: &V, c: usize) -> Option<u8>
 
 // The value of an element, ports included, or nothing where it is missing or blank.
 pub fn value_of<V: View>(view: &V, e: usize) -> Option<i32>
-    requires { ⌜ V·View .fits (now view) ⌝ }
+    requires { ⌜ Fit (V·View .fits (now view)) (V·View .rows (now view)) ⌝ }
     ensures { λ r. ⌜ r ≡ value-at (V·View .rows (now (view .entry))) (V·View .state (now (view .entry))) e ⌝ }
 {
     let Some(_x) = element(view, e) else {
@@ -37,7 +38,7 @@ pub fn value_of<V: View>(view: &V, e: usize) -> Option<i32>
 
 // The truth of a question, or that it is missing or blank.
 pub fn answer_to<V: View>(view: &V, q: usize) -> Result<bool, NoQuestion>
-    requires { ⌜ V·View .fits (now view) ⌝ }
+    requires { ⌜ Fit (V·View .fits (now view)) (V·View .rows (now view)) ⌝ }
     ensures { λ r. ⌜ r ≡ answer-of (V·View .rows (now (view .entry))) (V·View .state (now (view .entry))) q ⌝ }
 {
     let Some(x) = question(view, q) else {

@@ -4,6 +4,7 @@ ghost use mathlib.Core.Path.{_≡_};
 ghost use Rattle.running.specs.Steps.{parts, takes-part};
 ghost use Rattle.sheet.specs.Lookup.{element-at, setting-at};
 ghost use Rattle.view.specs.Checks.{new-value, change-by};
+ghost use Rattle.view.specs.Fit.{Fit};
 use crate::numbers::bring_into;
 use crate::typed::element;
 use crate::typed::setting;
@@ -16,7 +17,7 @@ use sheet::rows::Setting;
 // What the setting of a row changes if the step is made: an element, and the value that it gets. `worths` has what each
 // node gives.
 pub fn setting_change<V: View>(view: &V, worths: &[Worth], step: Step, row: usize) -> Option<(usize, i32)>
-    requires { ⌜ V·View .fits (now view) ⌝ }
+    requires { ⌜ Fit (V·View .fits (now view)) (V·View .rows (now view)) ⌝ }
     ensures { λ r. ⌜ r ≡ change-by (V·View .rows (now (view .entry))) (now (worths .entry)) (parts step) (setting-at (V·View .rows (now (view .entry))) row) ⌝ }
 {
     let Some(x) = setting(view, row) else {
@@ -30,7 +31,7 @@ pub fn setting_change<V: View>(view: &V, worths: &[Worth], step: Step, row: usiz
 
 // The element that a setting sets, and its new value.
 fn value_set<V: View>(view: &V, worths: &[Worth], x: Setting) -> Option<(usize, i32)>
-    requires { ⌜ V·View .fits (now view) ⌝ }
+    requires { ⌜ Fit (V·View .fits (now view)) (V·View .rows (now view)) ⌝ }
     ensures { λ r. ⌜ r ≡ new-value (now (worths .entry)) x (element-at (V·View .rows (now (view .entry))) (x .element)) ⌝ }
 {
     let Some(e) = element(view, x.element as usize) else {

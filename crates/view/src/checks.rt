@@ -9,6 +9,7 @@ ghost use Rattle.sheet.specs.Lookup.{is};
 ghost use Rattle.sheet.specs.Rules.{outward};
 ghost use Rattle.sheet.specs.Sections.{rows as rows-in-section, connections};
 ghost use Rattle.view.specs.Checks.{is-in-from-mode, has-true-guard, alone-fault, are-a-pair, is-carried as carried-by, pair-fault};
+ghost use Rattle.view.specs.Fit.{Fit};
 use crate::typed::connection;
 use crate::typed::event;
 use crate::typed::transition;
@@ -24,7 +25,7 @@ use sheet::rows::Transition;
 
 // The reply to a step: made, or the first check that fails. `worths` has what each node gives.
 pub fn check_step<V: View>(view: &V, worths: &[Worth], step: Step) -> Result<(), StepRefusal>
-    requires fits { ⌜ V·View .fits (now view) ⌝ }
+    requires fits { ⌜ Fit (V·View .fits (now view)) (V·View .rows (now view)) ⌝ }
     requires table { ⌜ ((n : ℕ) → getD (now worths) n nothing ≡ node-value (V·View .rows (now view)) (V·View .state (now view)) n) ⌝ }
     ensures { λ r. ⌜ r ≡ step-reply (V·View .rows (now (view .entry))) (V·View .state (now (view .entry))) step ⌝ }
 {
@@ -48,7 +49,7 @@ pub fn check_step<V: View>(view: &V, worths: &[Worth], step: Step) -> Result<(),
 }
 
 fn check_alone<V: View>(view: &V, worths: &[Worth], t: usize, x: Transition) -> Result<(), StepRefusal>
-    requires fits { ⌜ V·View .fits (now view) ⌝ }
+    requires fits { ⌜ Fit (V·View .fits (now view)) (V·View .rows (now view)) ⌝ }
     requires table { ⌜ ((n : ℕ) → getD (now worths) n nothing ≡ node-value (V·View .rows (now view)) (V·View .state (now view)) n) ⌝ }
     ensures { λ r. ⌜ r ≡ replied (alone-fault (V·View .rows (now (view .entry))) (V·View .state (now (view .entry))) t x) ⌝ }
 {
@@ -65,7 +66,7 @@ fn check_alone<V: View>(view: &V, worths: &[Worth], t: usize, x: Transition) -> 
 }
 
 fn check_pair<V: View>(view: &V, worths: &[Worth], t: usize, h: usize, x: Transition, y: Transition) -> Result<(), StepRefusal>
-    requires fits { ⌜ V·View .fits (now view) ⌝ }
+    requires fits { ⌜ Fit (V·View .fits (now view)) (V·View .rows (now view)) ⌝ }
     requires table { ⌜ ((n : ℕ) → getD (now worths) n nothing ≡ node-value (V·View .rows (now view)) (V·View .state (now view)) n) ⌝ }
     ensures { λ r. ⌜ r ≡ replied (pair-fault (V·View .rows (now (view .entry))) (V·View .state (now (view .entry))) t h x y) ⌝ }
 {
@@ -91,7 +92,7 @@ fn check_pair<V: View>(view: &V, worths: &[Worth], t: usize, h: usize, x: Transi
 }
 
 fn stands_in_from_mode<V: View>(view: &V, x: Transition) -> bool
-    requires { ⌜ V·View .fits (now view) ⌝ }
+    requires { ⌜ Fit (V·View .fits (now view)) (V·View .rows (now view)) ⌝ }
     ensures { λ r. ⌜ r ≡ is-in-from-mode (V·View .state (now (view .entry))) x ⌝ }
 {
     view.mode(x.component as usize) == x.from
@@ -106,7 +107,7 @@ fn guard_is_true<V: View>(view: &V, worths: &[Worth], x: Transition) -> bool
 
 // Whether there is an event, and it goes out.
 fn sends<V: View>(view: &V, named: Option<u8>) -> bool
-    requires { ⌜ V·View .fits (now view) ⌝ }
+    requires { ⌜ Fit (V·View .fits (now view)) (V·View .rows (now view)) ⌝ }
     ensures { λ r. ⌜ r ≡ sends-by (V·View .rows (now (view .entry))) named ⌝ }
 {
     let Some(v) = named else {
@@ -120,7 +121,7 @@ fn sends<V: View>(view: &V, named: Option<u8>) -> bool
 
 // Whether there is an event, and it comes in.
 fn hears<V: View>(view: &V, named: Option<u8>) -> bool
-    requires { ⌜ V·View .fits (now view) ⌝ }
+    requires { ⌜ Fit (V·View .fits (now view)) (V·View .rows (now view)) ⌝ }
     ensures { λ r. ⌜ r ≡ hears-by (V·View .rows (now (view .entry))) named ⌝ }
 {
     let Some(v) = named else {
@@ -143,7 +144,7 @@ fn goes_out(direction: Direction) -> bool
 
 // Whether the two are by their make a sender and a hearer.
 fn is_a_pair<V: View>(view: &V, x: Transition, y: Transition) -> bool
-    requires { ⌜ V·View .fits (now view) ⌝ }
+    requires { ⌜ Fit (V·View .fits (now view)) (V·View .rows (now view)) ⌝ }
     ensures { λ r. ⌜ r ≡ are-a-pair (V·View .rows (now (view .entry))) x y ⌝ }
 {
     sends(view, x.event) && hears(view, y.event) && x.component != y.component
@@ -151,7 +152,7 @@ fn is_a_pair<V: View>(view: &V, x: Transition, y: Transition) -> bool
 
 // Whether the connection carries the one event to the other.
 fn carries_event<V: View>(view: &V, k: Option<Connection>, out: u8, into: u8) -> bool
-    requires { ⌜ V·View .fits (now view) ⌝ }
+    requires { ⌜ Fit (V·View .fits (now view)) (V·View .rows (now view)) ⌝ }
     ensures { λ r. ⌜ r ≡ is k (carries (V·View .state (now (view .entry))) out into) ⌝ }
 {
     match k {
@@ -162,7 +163,7 @@ fn carries_event<V: View>(view: &V, k: Option<Connection>, out: u8, into: u8) ->
 
 // Whether some connection carries the one event to the other.
 fn any_connection_carries<V: View>(view: &V, out: u8, into: u8) -> bool
-    requires { ⌜ V·View .fits (now view) ⌝ }
+    requires { ⌜ Fit (V·View .fits (now view)) (V·View .rows (now view)) ⌝ }
     ensures { λ r. ⌜ r ≡ any-carries (V·View .state (now (view .entry))) out into (rows-in-section (V·View .rows (now (view .entry))) connections) ⌝ }
 {
     let count = view.count(5).unwrap_or(0);
@@ -175,7 +176,7 @@ fn any_connection_carries<V: View>(view: &V, out: u8, into: u8) -> bool
 }
 
 fn is_carried<V: View>(view: &V, sent: Option<u8>, heard: Option<u8>) -> bool
-    requires { ⌜ V·View .fits (now view) ⌝ }
+    requires { ⌜ Fit (V·View .fits (now view)) (V·View .rows (now view)) ⌝ }
     ensures { λ r. ⌜ r ≡ carried-by (V·View .rows (now (view .entry))) (V·View .state (now (view .entry))) sent heard ⌝ }
 {
     let Some(out) = sent else {

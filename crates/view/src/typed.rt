@@ -5,6 +5,7 @@ ghost use mathlib.Core.Path.{_≡_};
 ghost use Rattle.sheet.specs.Lookup.{there, component-at, element-at, event-at, node-at, flow-at, connection-at, transition-at, setting-at, question-at};
 ghost use Rattle.sheet.specs.Sections.{rows as rows-in-section, width-of};
 ghost use Rattle.std.specs.shelf.Maps.{nth};
+ghost use Rattle.view.specs.Fit.{Fit};
 use crate::view::View;
 use sheet::decode::ComponentFromRow;
 use sheet::decode::ConnectionFromRow;
@@ -38,7 +39,7 @@ use sheet::sizes::TRANSITION_BYTES;
 
 // The bytes of a row, or nothing where there is none.
 fn bytes_of<const N: usize, V: View>(view: &V, section: usize, row: usize) -> Option<[u8; N]>
-    requires fits { ⌜ V·View .fits (now view) ⌝ }
+    requires fits { ⌜ Fit (V·View .fits (now view)) (V·View .rows (now view)) ⌝ }
     requires wide { ⌜ width-of section ≡ N ⌝ }
     requires some { ⌜ 0 < N ⌝ }
     ensures { λ r. ⌜ r ≡ nth (rows-in-section (V·View .rows (now (view .entry))) section) row ⌝ }
@@ -55,7 +56,7 @@ fn bytes_of<const N: usize, V: View>(view: &V, section: usize, row: usize) -> Op
 
 // What a row holds; nothing where it is missing or blank.
 fn typed<const N: usize, R: FromRow<N>, V: View>(view: &V, section: usize, row: usize) -> Option<R>
-    requires fits { ⌜ V·View .fits (now view) ⌝ }
+    requires fits { ⌜ Fit (V·View .fits (now view)) (V·View .rows (now view)) ⌝ }
     requires wide { ⌜ width-of section ≡ N ⌝ }
     requires some { ⌜ 0 < N ⌝ }
     ensures { λ r. ⌜ r ≡ there (R·FromRow .entry) (rows-in-section (V·View .rows (now (view .entry))) section) row ⌝ }
@@ -70,42 +71,42 @@ fn typed<const N: usize, R: FromRow<N>, V: View>(view: &V, section: usize, row: 
 }
 
 pub(crate) fn component<V: View>(view: &V, i: usize) -> Option<Component>
-    requires { ⌜ V·View .fits (now view) ⌝ }
+    requires { ⌜ Fit (V·View .fits (now view)) (V·View .rows (now view)) ⌝ }
     ensures { λ r. ⌜ r ≡ component-at (V·View .rows (now (view .entry))) i ⌝ }
 {
     typed::<COMPONENT_BYTES, Component, V>(view, 0, i)
 }
 
 pub(crate) fn element<V: View>(view: &V, i: usize) -> Option<Element>
-    requires { ⌜ V·View .fits (now view) ⌝ }
+    requires { ⌜ Fit (V·View .fits (now view)) (V·View .rows (now view)) ⌝ }
     ensures { λ r. ⌜ r ≡ element-at (V·View .rows (now (view .entry))) i ⌝ }
 {
     typed::<ELEMENT_BYTES, Element, V>(view, 1, i)
 }
 
 pub(crate) fn event<V: View>(view: &V, i: usize) -> Option<Event>
-    requires { ⌜ V·View .fits (now view) ⌝ }
+    requires { ⌜ Fit (V·View .fits (now view)) (V·View .rows (now view)) ⌝ }
     ensures { λ r. ⌜ r ≡ event-at (V·View .rows (now (view .entry))) i ⌝ }
 {
     typed::<EVENT_BYTES, Event, V>(view, 2, i)
 }
 
 pub(crate) fn node<V: View>(view: &V, i: usize) -> Option<Node>
-    requires { ⌜ V·View .fits (now view) ⌝ }
+    requires { ⌜ Fit (V·View .fits (now view)) (V·View .rows (now view)) ⌝ }
     ensures { λ r. ⌜ r ≡ node-at (V·View .rows (now (view .entry))) i ⌝ }
 {
     typed::<NODE_BYTES, Node, V>(view, 3, i)
 }
 
 pub(crate) fn flow<V: View>(view: &V, i: usize) -> Option<Flow>
-    requires { ⌜ V·View .fits (now view) ⌝ }
+    requires { ⌜ Fit (V·View .fits (now view)) (V·View .rows (now view)) ⌝ }
     ensures { λ r. ⌜ r ≡ flow-at (V·View .rows (now (view .entry))) i ⌝ }
 {
     typed::<FLOW_BYTES, Flow, V>(view, 4, i)
 }
 
 pub(crate) fn connection<V: View>(view: &V, i: usize) -> Option<Connection>
-    requires { ⌜ V·View .fits (now view) ⌝ }
+    requires { ⌜ Fit (V·View .fits (now view)) (V·View .rows (now view)) ⌝ }
     ensures { λ r. ⌜ r ≡ connection-at (V·View .rows (now (view .entry))) i ⌝ }
 {
     typed::<CONNECTION_BYTES, Connection, V>(view, 5, i)
@@ -113,21 +114,21 @@ pub(crate) fn connection<V: View>(view: &V, i: usize) -> Option<Connection>
 
 // The transition of a row.
 pub fn transition<V: View>(view: &V, i: usize) -> Option<Transition>
-    requires { ⌜ V·View .fits (now view) ⌝ }
+    requires { ⌜ Fit (V·View .fits (now view)) (V·View .rows (now view)) ⌝ }
     ensures { λ r. ⌜ r ≡ transition-at (V·View .rows (now (view .entry))) i ⌝ }
 {
     typed::<TRANSITION_BYTES, Transition, V>(view, 6, i)
 }
 
 pub(crate) fn setting<V: View>(view: &V, i: usize) -> Option<Setting>
-    requires { ⌜ V·View .fits (now view) ⌝ }
+    requires { ⌜ Fit (V·View .fits (now view)) (V·View .rows (now view)) ⌝ }
     ensures { λ r. ⌜ r ≡ setting-at (V·View .rows (now (view .entry))) i ⌝ }
 {
     typed::<SETTING_BYTES, Setting, V>(view, 7, i)
 }
 
 pub(crate) fn question<V: View>(view: &V, i: usize) -> Option<Question>
-    requires { ⌜ V·View .fits (now view) ⌝ }
+    requires { ⌜ Fit (V·View .fits (now view)) (V·View .rows (now view)) ⌝ }
     ensures { λ r. ⌜ r ≡ question-at (V·View .rows (now (view .entry))) i ⌝ }
 {
     typed::<QUESTION_BYTES, Question, V>(view, 8, i)

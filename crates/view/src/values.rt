@@ -6,6 +6,7 @@ ghost use lib.IntN.{ℤ, pos};
 ghost use lib.ListN.{length, getD, take};
 ghost use Rattle.running.specs.Values.{number-in, truth-in, nothing, evaluated, node-cell, node-over, in-force, feeds, lists, element-cell, values as values-in, node-value};
 ghost use Rattle.sheet.specs.Sections.{rows as rows-in-section, elements, flows};
+ghost use Rattle.view.specs.Fit.{Fit};
 use crate::numbers::bring_into;
 use crate::numbers::difference_of;
 use crate::numbers::is_same;
@@ -60,7 +61,7 @@ pub(crate) fn value_at(values: &[i32], e: usize) -> i32
 
 // What a node gives, from the values of the elements and what the nodes before it give.
 fn evaluate<V: View>(view: &V, values: &[i32], before: &[Worth], node: Node) -> Worth
-    requires { ⌜ V·View .fits (now view) ⌝ }
+    requires { ⌜ Fit (V·View .fits (now view)) (V·View .rows (now view)) ⌝ }
     ensures { λ r. ⌜ r ≡ evaluated (V·View .state (now (view .entry))) (now (values .entry)) (now (before .entry)) node ⌝ }
 {
     match node {
@@ -79,7 +80,7 @@ fn evaluate<V: View>(view: &V, values: &[i32], before: &[Worth], node: Node) -> 
 
 // What node n gives, from the values of the elements and what the nodes before it give.
 fn node_worth<V: View>(view: &V, values: &[i32], before: &[Worth], n: usize) -> Worth
-    requires { ⌜ V·View .fits (now view) ⌝ }
+    requires { ⌜ Fit (V·View .fits (now view)) (V·View .rows (now view)) ⌝ }
     ensures { λ r. ⌜ r ≡ node-cell (V·View .rows (now (view .entry))) (V·View .state (now (view .entry))) (now (values .entry)) n (now (before .entry)) ⌝ }
 {
     match node(view, n) {
@@ -90,7 +91,7 @@ fn node_worth<V: View>(view: &V, values: &[i32], before: &[Worth], n: usize) -> 
 
 // What each node gives over some values of the elements: each node once, in rising order.
 fn worths<V: View>(view: &V, values: &[i32]) -> [Worth; NODE_SLOTS]
-    requires { ⌜ V·View .fits (now view) ⌝ }
+    requires { ⌜ Fit (V·View .fits (now view)) (V·View .rows (now view)) ⌝ }
     ensures { λ r. ⌜ ((n : ℕ) → getD r n nothing ≡ node-over (V·View .rows (now (view .entry))) (V·View .state (now (view .entry))) (now (values .entry)) n) ⌝ }
 {
     let mut table = [Worth::Number(0); NODE_SLOTS];
@@ -120,7 +121,7 @@ fn feeds_port(f: Option<Flow>, port: usize, mode: u8) -> bool
 
 // The flow to a port that is in force in a mode of its component.
 fn flow_in_force<V: View>(view: &V, port: usize, mode: u8) -> Option<Flow>
-    requires { ⌜ V·View .fits (now view) ⌝ }
+    requires { ⌜ Fit (V·View .fits (now view)) (V·View .rows (now view)) ⌝ }
     ensures { λ r. ⌜ r ≡ in-force (rows-in-section (V·View .rows (now (view .entry))) flows) port mode ⌝ }
 {
     let count = view.count(4).unwrap_or(0);
@@ -135,7 +136,7 @@ fn flow_in_force<V: View>(view: &V, port: usize, mode: u8) -> Option<Flow>
 
 // The value of element e, from the values of the elements before it.
 fn element_worth<V: View>(view: &V, before: &[i32], e: usize) -> i32
-    requires { ⌜ V·View .fits (now view) ⌝ }
+    requires { ⌜ Fit (V·View .fits (now view)) (V·View .rows (now view)) ⌝ }
     ensures { λ r. ⌜ r ≡ element-cell (V·View .rows (now (view .entry))) (V·View .state (now (view .entry))) e (now (before .entry)) ⌝ }
 {
     let Some(x) = element(view, e) else {
@@ -154,7 +155,7 @@ fn element_worth<V: View>(view: &V, before: &[i32], e: usize) -> i32
 
 // The values of the elements: each once, in rising order.
 pub fn element_values<V: View>(view: &V) -> [i32; ELEMENT_SLOTS]
-    requires { ⌜ V·View .fits (now view) ⌝ }
+    requires { ⌜ Fit (V·View .fits (now view)) (V·View .rows (now view)) ⌝ }
     ensures { λ r. ⌜ take (length (rows-in-section (V·View .rows (now (view .entry))) elements)) r ≡ values-in (V·View .rows (now (view .entry))) (V·View .state (now (view .entry))) ⌝ }
 {
     let mut table = [0i32; ELEMENT_SLOTS];
@@ -167,7 +168,7 @@ pub fn element_values<V: View>(view: &V) -> [i32; ELEMENT_SLOTS]
 
 // What each node gives in the state.
 pub fn node_values<V: View>(view: &V) -> [Worth; NODE_SLOTS]
-    requires { ⌜ V·View .fits (now view) ⌝ }
+    requires { ⌜ Fit (V·View .fits (now view)) (V·View .rows (now view)) ⌝ }
     ensures { λ r. ⌜ ((n : ℕ) → getD r n nothing ≡ node-value (V·View .rows (now (view .entry))) (V·View .state (now (view .entry))) n) ⌝ }
 {
     let values = element_values(view);

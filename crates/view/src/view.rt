@@ -6,7 +6,6 @@ ghost use mathlib.Core.List.{List};
 ghost use mathlib.Core.Path.{_≡_};
 ghost use Rattle.running.specs.States.{State, mode-of, held-of, is-held};
 ghost use Rattle.sheet.specs.Cells.{count-of, byte-of};
-ghost use Rattle.sheet.specs.Accept.{accepted};
 
 // The rows of an accepted sheet, and modes and values.
 pub trait View {
@@ -16,8 +15,6 @@ pub trait View {
     ghost state: { Self → State };
     // The tables behind the view fit.
     ghost fits: { Self → Type 0 };
-    // What fits shows an accepted sheet.
-    law sound: { (x : Self) → fits x → accepted (rows x) ≡ true };
 
     fn count(&self, section: usize) -> Option<usize>
         requires { ⌜ fits (now self) ⌝ }

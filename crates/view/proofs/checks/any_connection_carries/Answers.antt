@@ -26,17 +26,17 @@ first-left w o v rs i k b l e h =
 pub returns-then-carries-event : need.returns-then-carries-event
 returns-then-carries-event g c =
     let s = g .V·View .rows (c .args .view .now) in
-    let n = count-is s connections (g .V·View·met .sound (c .args .view .now) (c .pre)) (omega arith) (c .count .result) (c .count .ensures) in
+    let n = count-is s connections (c .pre .accepts) (omega arith) (c .count .result) (c .count .ensures) in
     sym (sym (c .loop-i .inv) ∙ first-left (g .V·View .state (c .args .view .now)) (c .args .out) (c .args .into) (rows s connections) (c .loop-i .i) (c .connection .result) true (omega (arith, c .loop-i-test .taken, c .unwrap-or-count .ensures, n)) (c .connection .ensures) (c .if-carries-event .ensures tt))
 
 pub loop-i-again : need.loop-i-again
 loop-i-again g c =
     let s = g .V·View .rows (c .args .view .now) in
-    let n = count-is s connections (g .V·View·met .sound (c .args .view .now) (c .pre)) (omega arith) (c .count .result) (c .count .ensures) in
+    let n = count-is s connections (c .pre .accepts) (omega arith) (c .count .result) (c .count .ensures) in
     sym (first-left (g .V·View .state (c .args .view .now)) (c .args .out) (c .args .into) (rows s connections) (c .loop-i .i) (c .connection .result) false (omega (arith, c .loop-i-test .taken, c .unwrap-or-count .ensures, n)) (c .connection .ensures) (c .if-carries-event .ensures tt)) ∙ c .loop-i .inv
 
 pub returns : need.returns
 returns g c =
     let s = g .V·View .rows (c .args .view .now) in
-    let n = count-is s connections (g .V·View·met .sound (c .args .view .now) (c .pre)) (omega arith) (c .count .result) (c .count .ensures) in
+    let n = count-is s connections (c .pre .accepts) (omega arith) (c .count .result) (c .count .ensures) in
     sym (sym (c .loop-i .inv) ∙ ap (any-carries (g .V·View .state (c .args .view .now)) (c .args .out) (c .args .into)) (drop-all (c .loop-i .i) (rows s connections) (omega (arith, c .loop-i-test .left, c .unwrap-or-count .ensures, n))))

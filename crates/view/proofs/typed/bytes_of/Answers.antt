@@ -12,7 +12,7 @@ loop-place-holds g c = record { long = length-replicate (g .N) 0; inside = omega
 
 pub returns-in-rest : need.returns-in-rest
 returns-in-rest g c =
-    let a = g .V·View·met .sound (c .args .view .now) (c .pre .fits) in
+    let a = c .pre .fits .accepts in
     row-missing (g .V·View .rows (c .args .view .now)) (c .args .section) (c .args .row) (g .N) a (c .pre .wide) (c .loop-place .place) (c .loop-place-test .taken) (c .in-rest .ensures tt)
 
 pub loop-place-again : need.loop-place-again
@@ -21,5 +21,5 @@ loop-place-again g c =
 
 pub returns : need.returns
 returns g c =
-    let a = g .V·View·met .sound (c .args .view .now) (c .pre .fits) in
+    let a = c .pre .fits .accepts in
     row-whole (g .V·View .rows (c .args .view .now)) (c .args .section) (c .args .row) (g .N) a (c .pre .wide) (c .loop-place .bytes) (c .loop-place .place) (c .pre .some) (c .loop-place-test .left) (c .loop-place .inv)

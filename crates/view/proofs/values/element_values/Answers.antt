@@ -24,6 +24,6 @@ returns g c =
     let s = g .V·View .rows (c .args .view .now) in
     let w = g .V·View .state (c .args .view .now) in
     let all : c .loop-e .e ≡ 64 = omega arith in
-    let a = g .V·View·met .sound (c .args .view .now) (c .pre) in
+    let a = c .pre .accepts in
     let f = element-cell s w in
     values-taken s w (c .loop-e .table) a (filled-all f (c .loop-e .table) 64 (c .loop-e .e) (c .loop-e .inv) (omega arith) ∙ ap (grow f) all)

@@ -13,6 +13,6 @@ returns g c n =
     let w = g .V·View .state (c .args .view .now) in
     let vs = c .element-values-values .result in
     let k = c .unwrap-or-count .result in
-    let all : k ≡ length (rows s elements) = c .unwrap-or-count .ensures ∙ count-is s elements (g .V·View·met .sound (c .args .view .now) (c .pre)) (omega arith) (c .count .result) (c .count .ensures) in
+    let all : k ≡ length (rows s elements) = c .unwrap-or-count .ensures ∙ count-is s elements (c .pre .accepts) (omega arith) (c .count .result) (c .count .ensures) in
     let part : k - 0 ≡ length (rows s elements) = omega (arith, all) in
     c .worths .ensures n ∙ ap (λ l. node-over s w l n) (ap (λ j. take j vs) part ∙ c .element-values-values .ensures)

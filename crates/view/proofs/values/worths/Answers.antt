@@ -19,6 +19,6 @@ returns g c =
     let s = g .V·View .rows (c .args .view .now) in
     let w = g .V·View .state (c .args .view .now) in
     let all : c .loop-n .n ≡ 128 = omega arith in
-    let a = g .V·View·met .sound (c .args .view .now) (c .pre) in
+    let a = c .pre .accepts in
     let f = node-cell s w (c .args .values .now) in
     node-table s w (c .args .values .now) (c .loop-n .table) a (filled-all f (c .loop-n .table) 128 (c .loop-n .n) (c .loop-n .inv) (omega arith) ∙ ap (grow f) all)

@@ -1,0 +1,4 @@
+// Rigs: whatever runs a sheet.
+
+pub mod answer;
+pub mod rig;
