@@ -2,6 +2,7 @@
 
 ghost use Prim.Native.Nat.{ℕ};
 ghost use mathlib.Core.Path.{_≡_};
+ghost use Rattle.running.specs.Laws.{Reached-are-states, Values-by-laws};
 ghost use Rattle.running.specs.Steps.{answer-of};
 use crate::rig::Rig;
 use running::kinds::NoQuestion;
@@ -9,7 +10,7 @@ use view::answers::answer_to;
 use view::view::View;
 
 // A rig, seen through its reading calls.
-#[derive(Clone, Copy)]
+#[derive(Drop)]
 struct Seen<'a, R> {
     rig: &'a R,
 }
@@ -39,7 +40,9 @@ impl<'a, R: Rig> View for Seen<'a, R> as SeenView {
 // The truth of a question in the rig's state, or that the question is missing or blank.
 pub fn answer<R: Rig>(rig: &R, q: usize) -> Result<bool, NoQuestion>
     requires { ⌜ R·Rig .fits (now rig) ⌝ }
-    ensures { λ r. ⌜ r ≡ answer-of (R·Rig .rows (now (rig .entry))) (R·Rig .means (now (rig .entry)) .state) q ⌝ }
+    ensures reached_are_states { λ _. ⌜ Reached-are-states ⌝ }
+    ensures values_by_laws { λ _. ⌜ Values-by-laws ⌝ }
+    ensures value { λ r. ⌜ r ≡ answer-of (R·Rig .rows (now (rig .entry))) (R·Rig .means (now (rig .entry)) .state) q ⌝ }
 {
     answer_to(&Seen { rig }, q)
 }

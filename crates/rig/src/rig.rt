@@ -3,7 +3,7 @@
 ghost use Prim.Native.Nat.{ℕ};
 ghost use mathlib.Core.List.{List};
 ghost use mathlib.Core.Path.{_≡_};
-ghost use Rattle.running.specs.Laws.{Made-when-possible, Names-the-first-check, Reached-are-states};
+ghost use Rattle.running.specs.Laws.{Made-when-possible, Names-the-first-check};
 ghost use Rattle.running.specs.States.{start-state};
 ghost use Rattle.running.specs.Steps.{mode-at, value-at, step-reply, step-state};
 ghost use Rattle.sheet.specs.Cells.{count-of, byte-of};
@@ -52,6 +52,8 @@ pub trait Rig {
     fn step(&mut self, step: Step) -> Result<(), StepRefusal>
         requires { ⌜ fits (now self) ⌝ }
         ensures still_fits { λ _. ⌜ fits (now (self .exit)) ⌝ }
+        ensures made_when_possible { λ r. ⌜ Made-when-possible (rows (now (self .entry))) (means (now (self .entry)) .state) step r ⌝ }
+        ensures names_the_first_check { λ r. ⌜ Names-the-first-check (rows (now (self .entry))) (means (now (self .entry)) .state) step r ⌝ }
         ensures reply { λ r. ⌜ r ≡ step-reply (rows (now (self .entry))) (means (now (self .entry)) .state) step ⌝ }
         ensures moves { λ _. ⌜ Moved (rows (now (self .entry))) (rows (now (self .exit))) (means (now (self .entry))) (means (now (self .exit))) (step-state (rows (now (self .entry))) (means (now (self .entry)) .state) step) ⌝ };
 }
