@@ -35,7 +35,7 @@ there-inside entry rs i x e =
     (λ (l : length rs ≤ i). no-pass x (sym e ∙ there-past entry rs i l))
     (cases-lt i (length rs))
 
-held-holds : {X : Type 0} (e : Entry X) (x : X) → held e ≡ Some x → e ≡ Holds x
+pub held-holds : {X : Type 0} (e : Entry X) (x : X) → held e ≡ Some x → e ≡ Holds x
 held-holds Blank x h = no-pass x (sym h)
 held-holds Faulty x h = no-pass x (sym h)
 held-holds (Holds y) x h = cc

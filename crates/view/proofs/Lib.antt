@@ -1,2 +1,3 @@
 pub mod Bytes
+pub mod Starts
 pub mod Tables

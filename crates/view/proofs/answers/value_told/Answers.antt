@@ -10,7 +10,7 @@ use Rattle.sheet.specs.Sections.{rows, elements}
 use Rattle.sheet.specs.Typed.{element-entry}
 use Rattle.sheet.proofs.Meaning.{there-inside}
 use Rattle.running.specs.Values.{values}
-use Rattle.view.proofs.answers.value_of.Needs as need
+use Rattle.view.proofs.answers.value_told.Needs as need
 
 pub returns : need.returns
 returns g c =

@@ -1,0 +1,5 @@
+// The open rig.
+
+mod moves;
+mod store;
+mod tables;
