@@ -1,5 +1,6 @@
 // The open rig.
 
 mod moves;
+pub mod open;
 mod store;
 mod tables;
