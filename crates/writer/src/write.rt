@@ -1,4 +1,4 @@
-// An accepted sheet, section by section, row by row and byte by byte.
+// The sheet of any rig, section by section, row by row and byte by byte.
 
 ghost use Prim.Native.Nat.{ℕ, _+_, _*_, _<_, _≤_};
 ghost use mathlib.Core.List.{[]};
@@ -6,11 +6,10 @@ ghost use mathlib.Core.Path.{_≡_};
 ghost use lib.ListN.{length, getD};
 ghost use Rattle.sheet.specs.Sections.{rows, section-bytes, bytes-of, width-of};
 ghost use Rattle.sheet.specs.Laws.{Reads-back};
-ghost use Rattle.reader.specs.Means.{rows-held};
 ghost use Rattle.writer.specs.Written.{Put, Written};
 use crate::fault::TooShort;
 use crate::put::put;
-use reader::accepted::AcceptedSheet;
+use rig::rig::Rig;
 use sheet::sizes::COMPONENT_BYTES;
 use sheet::sizes::CONNECTION_BYTES;
 use sheet::sizes::ELEMENT_BYTES;
@@ -41,36 +40,39 @@ fn row_length(section: usize) -> usize
 }
 
 // The bytes of a section.
-fn section_length(sheet: &AcceptedSheet, section: usize) -> usize
-    requires { ⌜ section < 9 ⌝ }
-    ensures value { λ r. ⌜ r ≡ length (section-bytes (rows (rows-held (now (sheet .entry))) section)) ⌝ }
+fn section_length<R: Rig>(rig: &R, section: usize) -> usize
+    requires fits { ⌜ R·Rig .fits (now rig) ⌝ }
+    requires there { ⌜ section < 9 ⌝ }
+    ensures value { λ r. ⌜ r ≡ length (section-bytes (rows (R·Rig .rows (now (rig .entry))) section)) ⌝ }
     ensures few { λ r. ⌜ r ≤ 1025 ⌝ }
 {
-    let Some(count) = sheet.count(section) else {
+    let Some(count) = rig.count(section) else {
         return 0;
     };
     1 + count * row_length(section)
 }
 
 // The bytes of the sheet.
-fn sheet_length(sheet: &AcceptedSheet) -> usize
-    ensures { λ r. ⌜ r ≡ length (bytes-of (rows-held (now (sheet .entry)))) ⌝ }
+fn sheet_length<R: Rig>(rig: &R) -> usize
+    requires { ⌜ R·Rig .fits (now rig) ⌝ }
+    ensures { λ r. ⌜ r ≡ length (bytes-of (R·Rig .rows (now (rig .entry)))) ⌝ }
 {
     let mut total = 0;
     for section in 0..SECTIONS {
-        total += section_length(sheet, section);
+        total += section_length(rig, section);
     }
     total
 }
 
 // Puts a row into the buffer from a place on, and tells the place behind it.
-fn put_row(out: &mut [u8], from: usize, sheet: &AcceptedSheet, section: usize, row: usize) -> usize
-    requires { ⌜ from + length (getD (rows (rows-held (now sheet)) section) row []) ≤ length (now out) ⌝ }
-    ensures { λ r. ⌜ Put (getD (rows (rows-held (now (sheet .entry))) section) row []) (now (out .entry)) from (now (out .exit)) r ⌝ }
+fn put_row<R: Rig>(out: &mut [u8], from: usize, rig: &R, section: usize, row: usize) -> usize
+    requires fits { ⌜ R·Rig .fits (now rig) ⌝ }
+    requires room { ⌜ from + length (getD (rows (R·Rig .rows (now rig)) section) row []) ≤ length (now out) ⌝ }
+    ensures { λ r. ⌜ Put (getD (rows (R·Rig .rows (now (rig .entry))) section) row []) (now (out .entry)) from (now (out .exit)) r ⌝ }
 {
     let mut at = from;
     let mut place = 0;
-    while let Some(b) = sheet.byte(section, row, place) {
+    while let Some(b) = rig.byte(section, row, place) {
         at = put(out, at, &[b]);
         place += 1;
     }
@@ -78,32 +80,35 @@ fn put_row(out: &mut [u8], from: usize, sheet: &AcceptedSheet, section: usize, r
 }
 
 // Puts a section into the buffer from a place on, and tells the place behind it.
-fn put_section(out: &mut [u8], from: usize, sheet: &AcceptedSheet, section: usize) -> usize
-    requires { ⌜ section < 9 ⌝ ∗ ⌜ from + length (section-bytes (rows (rows-held (now sheet)) section)) ≤ length (now out) ⌝ }
-    ensures { λ r. ⌜ Put (section-bytes (rows (rows-held (now (sheet .entry))) section)) (now (out .entry)) from (now (out .exit)) r ⌝ }
+fn put_section<R: Rig>(out: &mut [u8], from: usize, rig: &R, section: usize) -> usize
+    requires fits { ⌜ R·Rig .fits (now rig) ⌝ }
+    requires there { ⌜ section < 9 ⌝ }
+    requires room { ⌜ from + length (section-bytes (rows (R·Rig .rows (now rig)) section)) ≤ length (now out) ⌝ }
+    ensures { λ r. ⌜ Put (section-bytes (rows (R·Rig .rows (now (rig .entry))) section)) (now (out .entry)) from (now (out .exit)) r ⌝ }
 {
-    let Some(count) = sheet.count(section) else {
+    let Some(count) = rig.count(section) else {
         return from;
     };
     let mut at = put(out, from, &[count as u8]);
     for row in 0..count {
-        at = put_row(out, at, sheet, section, row);
+        at = put_row(out, at, rig, section, row);
     }
     at
 }
 
-// Writes the sheet to the front of the buffer, and tells its length.
-pub fn write(sheet: &AcceptedSheet, out: &mut [u8]) -> Result<usize, TooShort>
-    ensures written { λ r. ⌜ Written (bytes-of (rows-held (now (sheet .entry)))) (now (out .entry)) (now (out .exit)) r ⌝ }
-    ensures reads_back { λ _. ⌜ Reads-back (rows-held (now (sheet .entry))) ⌝ }
+// Writes the rig's sheet to the front of the buffer, and tells its length.
+pub fn write<R: Rig>(rig: &R, out: &mut [u8]) -> Result<usize, TooShort>
+    requires { ⌜ R·Rig .fits (now rig) ⌝ }
+    ensures written { λ r. ⌜ Written (bytes-of (R·Rig .rows (now (rig .entry)))) (now (out .entry)) (now (out .exit)) r ⌝ }
+    ensures reads_back { λ _. ⌜ Reads-back (R·Rig .rows (now (rig .entry))) ⌝ }
 {
-    let needed = sheet_length(sheet);
+    let needed = sheet_length(rig);
     if out.len() < needed {
         return Err(TooShort { needed });
     }
     let mut at = 0;
     for section in 0..SECTIONS {
-        at = put_section(out, at, sheet, section);
+        at = put_section(out, at, rig, section);
     }
     Ok(at)
 }

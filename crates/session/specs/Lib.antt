@@ -1,0 +1,5 @@
+pub mod Pieces
+pub mod Sixteen
+pub mod Calls
+pub mod Lines
+pub mod Replies

@@ -1,0 +1,41 @@
+// What a session answers to a call, as a line of text.
+
+ghost use mathlib.Core.Path.{_≡_};
+ghost use Rattle.std.specs.Of.String.{string-bytes};
+ghost use Rattle.std.specs.Vec.{made};
+ghost use Rattle.session.specs.Replies.{reply-line};
+use std::alloc::AllocError;
+use std::alloc::Global;
+
+#[derive(Clone, Copy, PartialEq, Eq, Debug)]
+pub enum Reply {
+    // A step is made.
+    Made,
+    // A step is refused, with the number of the refusal and the transition that it names.
+    Refused(u8, usize),
+    // The answer to a question.
+    Truth(bool),
+    // A mode, a number of rows or a byte.
+    Count(usize),
+    // The value of an element.
+    Value(i32),
+    // What is asked for is missing.
+    Nothing,
+    // The line is no call.
+    NotACall,
+}
+
+// The line for a reply, with no line feed.
+pub fn reply_text(heap: Global, reply: Reply) -> Result<String, AllocError>
+    ensures { λ r. ⌜ made r (λ t. string-bytes t ≡ reply-line reply) ⌝ }
+{
+    match reply {
+        Reply::Made => String::from_str(heap, "made"),
+        Reply::Refused(number, transition) => format!(heap, "refused {number} {transition}"),
+        Reply::Truth(truth) => format!(heap, "{truth}"),
+        Reply::Count(n) => format!(heap, "{n}"),
+        Reply::Value(n) => format!(heap, "{n}"),
+        Reply::Nothing => String::from_str(heap, "nothing"),
+        Reply::NotACall => String::from_str(heap, "not a call"),
+    }
+}
