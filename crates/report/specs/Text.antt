@@ -67,13 +67,16 @@ abbrev pub lines : ℕ → (ℕ → List ℕ) → List ℕ
 lines zero f = []
 lines (suc n) f = lines n f ++ f n
 
-abbrev pub accepted-text : Sheet → List ℕ
-accepted-text s =
+-- what is in a sheet
+abbrev pub contents-text : Sheet → List ℕ
+contents-text s =
     codes "accepted\n"
     ++ (lines (length s) (count-line s)
     ++ (lines (length (rows s components)) (component-line s)
-    ++ (lines (length (rows s questions)) (question-line s)
-    ++ rewritten-line (length (bytes-of s)))))
+    ++ lines (length (rows s questions)) (question-line s)))
+
+abbrev pub accepted-text : Sheet → List ℕ
+accepted-text s = contents-text s ++ rewritten-line (length (bytes-of s))
 
 abbrev pub refused-text : Refusal → List ℕ
 refused-text f = refused-line f ++ explained-line f
