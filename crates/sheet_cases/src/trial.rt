@@ -4,10 +4,12 @@ use crate::case::Case;
 use crate::verdict::Verdict;
 use crate::verdict::VerdictDisplay;
 use crate::verdict::VerdictPartialEq;
-use reader::accepted::AcceptedSheet;
+use open_rig::open::OpenRig;
+use open_rig::open::OpenRigRig;
 use reader::fault::ReadFault;
 use reader::read::read;
 use reader::read::verdict;
+use rig::rig::Rig;
 use std::alloc::AllocError;
 use std::alloc::Global;
 use std::fmt;
@@ -86,10 +88,12 @@ fn holds(buffer: &[u8], front: &[u8]) -> bool {
     buffer.starts_with(front)
 }
 
-// Writes the sheet, which was read from these bytes, to a buffer with room for so many bytes.
-fn try_write(heap: Global, sheet: &AcceptedSheet, bytes: &[u8], room: usize) -> Result<(), Wrong> {
+// Writes the rig's sheet, which was read from these bytes, to a buffer with room for so many bytes.
+fn try_write<R: Rig>(heap: Global, rig: &R, bytes: &[u8], room: usize) -> Result<(), Wrong>
+    requires { ⌜ R·Rig .fits (now rig) ⌝ }
+{
     let mut buffer = vec![in heap; FILL; room]?;
-    let reply = write(sheet, &mut buffer);
+    let reply = write(rig, &mut buffer);
     let needed = bytes.len();
     let expected = if room < needed {
         Err(TooShort { needed })
@@ -108,12 +112,14 @@ fn try_write(heap: Global, sheet: &AcceptedSheet, bytes: &[u8], room: usize) -> 
 }
 
 // Writes the sheet to a buffer of its length, to a longer one and to one that is a byte too short.
-fn try_writes(heap: Global, sheet: &AcceptedSheet, bytes: &[u8]) -> Result<(), Wrong> {
+fn try_writes<R: Rig>(heap: Global, rig: &R, bytes: &[u8]) -> Result<(), Wrong>
+    requires { ⌜ R·Rig .fits (now rig) ⌝ }
+{
     let length = bytes.len();
-    try_write(heap, sheet, bytes, length)?;
-    try_write(heap, sheet, bytes, length.saturating_add(SPARE))?;
+    try_write(heap, rig, bytes, length)?;
+    try_write(heap, rig, bytes, length.saturating_add(SPARE))?;
     match length.checked_sub(1) {
-        Some(short) => try_write(heap, sheet, bytes, short),
+        Some(short) => try_write(heap, rig, bytes, short),
         None => Ok(()),
     }
 }
@@ -122,7 +128,10 @@ fn try_writes(heap: Global, sheet: &AcceptedSheet, bytes: &[u8]) -> Result<(), W
 fn try_read(heap: Global, case: &Case) -> Result<(), Wrong> {
     let found = match read(heap, &case.bytes) {
         Ok(sheet) => {
-            try_writes(heap, &sheet, &case.bytes)?;
+            let Ok(rig) = OpenRig::new(heap, sheet) else {
+                return Err(Wrong::OutOfMemory);
+            };
+            try_writes(heap, &rig, &case.bytes)?;
             Verdict::Accepted
         }
         Err(ReadFault::Refused(refusal)) => Verdict::refused(refusal),
