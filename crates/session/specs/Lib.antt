@@ -3,3 +3,4 @@ pub mod Sixteen
 pub mod Calls
 pub mod Lines
 pub mod Replies
+pub mod Performed

@@ -3,4 +3,5 @@
 pub mod call;
 pub mod hex;
 pub mod line;
+pub mod perform;
 pub mod reply;
