@@ -1,6 +1,7 @@
 -- What a call of a session does to a rig, and what is said of it.
 use Prim.Native.Nat.{ℕ}
 use mathlib.Core.Bool.{Bool}
+use mathlib.Core.List.{List}
 
 use lib.IntN.{ℤ}
 use Rattle.std.specs.declared.option.Option.{Option}
@@ -14,10 +15,11 @@ use Rattle.running.specs.declared.kinds.Step.the-variants.{Alone as By-one, Pai
 use Rattle.running.specs.declared.kinds.StepRefusal.{StepRefusal}
 use Rattle.sheet.specs.Cells.{count-of, byte-of}
 use Rattle.sheet.specs.Sections.{Sheet}
+use Rattle.session.specs.Calls.{call-of}
 use Rattle.session.specs.declared.call.Call.{Call}
 use Rattle.session.specs.declared.call.Call.the-variants.{Alone, Pair, Home, Answer, Mode, Value, Count, Byte}
 use Rattle.session.specs.declared.reply.Reply.{Reply}
-use Rattle.session.specs.declared.reply.Reply.the-variants.{Made, Refused, Truth, Nothing, Count as A-count, Value as A-value}
+use Rattle.session.specs.declared.reply.Reply.the-variants.{Made, Refused, Truth, Nothing, NotACall, Count as A-count, Value as A-value}
 
 abbrev pub step-said : Result (Unit {0}) StepRefusal → Reply
 step-said (Ok u) = Made
@@ -56,3 +58,18 @@ state-after s w (Mode c) = w
 state-after s w (Value e) = w
 state-after s w (Count n) = w
 state-after s w (Byte n row place) = w
+
+abbrev pub said : Sheet → State → Option Call → Reply
+said s w None = NotACall
+said s w (Some call) = reply-of s w call
+
+abbrev pub left : Sheet → State → Option Call → State
+left s w None = w
+left s w (Some call) = state-after s w call
+
+-- What is said of a line, and the state after it: a line that is no call alters nothing.
+abbrev pub reply-to-line : Sheet → State → List ℕ → Reply
+reply-to-line s w line = said s w (call-of line)
+
+abbrev pub state-after-line : Sheet → State → List ℕ → State
+state-after-line s w line = left s w (call-of line)

@@ -1,14 +1,21 @@
 // Lines read as calls.
 
+ghost use mathlib.Core.Bool.{true};
 ghost use mathlib.Core.List.{[], _∷_};
 ghost use mathlib.Core.Path.{_≡_};
+ghost use Rattle.std.specs.Of.Vec.{vec-items};
+ghost use Rattle.std.specs.Options.{isSome, mapped};
+ghost use Rattle.std.specs.Results.{Cases};
 ghost use Rattle.std.specs.shelf.Text.{sameBytes};
 ghost use Rattle.session.specs.Calls.{words, number-in, call-named, call-of};
-ghost use Rattle.session.specs.Lines.{words-behind};
+ghost use Rattle.session.specs.Lines.{words-behind, opened};
 use crate::call::Call;
+use crate::hex::hex_bytes;
+use std::alloc::AllocError;
+use std::alloc::Global;
 
 // What the line asks, or none where it is no call.
-pub fn call_of_line(line: &[u8]) -> Option<Call>
+pub(crate) fn call_of_line(line: &[u8]) -> Option<Call>
     ensures { λ r. ⌜ r ≡ call-of (now (line .entry)) ⌝ }
 {
     let (name, mut left) = first_word(line);
@@ -25,6 +32,20 @@ pub fn call_of_line(line: &[u8]) -> Option<Call>
         left = rest;
     }
     call_by_name(name, &numbers[0..count])
+}
+
+// The bytes that a line opens, or none where it opens nothing.
+pub fn opened_by_line(heap: Global, line: &[u8]) -> Result<Option<Vec<u8>>, AllocError>
+    ensures { λ r. ⌜ Cases r (λ o. mapped vec-items o ≡ opened (now (line .entry))) (λ _. isSome (opened (now (line .entry))) ≡ true) ⌝ }
+{
+    let [o, p, e, n, blank, digits @ ..] = line else {
+        return Ok(None);
+    };
+    if is_word(&[*o, *p, *e, *n, *blank], "open ") {
+        hex_bytes(heap, digits)
+    } else {
+        Ok(None)
+    }
 }
 
 // The bytes before the first blank, and those behind it where there is one.

@@ -1,10 +1,12 @@
 // Calls made on a rig.
 
 ghost use Prim.Native.Nat.{ℕ};
+ghost use mathlib.Core.List.{List};
 ghost use mathlib.Core.Path.{_≡_};
 ghost use Rattle.rig.specs.Meaning.{Moved};
-ghost use Rattle.session.specs.Performed.{step-said, answer-said, count-said, reply-of, state-after};
+ghost use Rattle.session.specs.Performed.{step-said, answer-said, count-said, reply-of, state-after, reply-to-line, state-after-line};
 use crate::call::Call;
+use crate::line::call_of_line;
 use crate::reply::Reply;
 use rig::answer::answer;
 use rig::rig::Rig;
@@ -12,8 +14,20 @@ use running::kinds::NoQuestion;
 use running::kinds::Step;
 use running::kinds::StepRefusal;
 
-// Makes the call on the rig, and gives the reply.
-pub fn perform<R: Rig>(rig: &mut R, call: Call) -> Reply
+// Makes the call that the line asks for on the rig, and gives the reply.
+pub fn reply_to_line<R: Rig>(rig: &mut R, line: &[u8]) -> Reply
+    requires { ⌜ R·Rig .fits (now rig) ⌝ }
+    ensures still_fits { λ _. ⌜ R·Rig .fits (now (rig .exit)) ⌝ }
+    ensures reply { λ r. ⌜ r ≡ reply-to-line (R·Rig .rows (now (rig .entry))) (R·Rig .means (now (rig .entry)) .state) (now (line .entry)) ⌝ }
+    ensures moves { λ _. ⌜ Moved (R·Rig .rows (now (rig .entry))) (R·Rig .rows (now (rig .exit))) (R·Rig .means (now (rig .entry))) (R·Rig .means (now (rig .exit))) (state-after-line (R·Rig .rows (now (rig .entry))) (R·Rig .means (now (rig .entry)) .state) (now (line .entry))) ⌝ }
+{
+    match call_of_line(line) {
+        Some(call) => perform(rig, call),
+        None => Reply::NotACall,
+    }
+}
+
+fn perform<R: Rig>(rig: &mut R, call: Call) -> Reply
     requires { ⌜ R·Rig .fits (now rig) ⌝ }
     ensures still_fits { λ _. ⌜ R·Rig .fits (now (rig .exit)) ⌝ }
     ensures reply { λ r. ⌜ r ≡ reply-of (R·Rig .rows (now (rig .entry))) (R·Rig .means (now (rig .entry)) .state) call ⌝ }
