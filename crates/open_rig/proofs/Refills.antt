@@ -37,10 +37,10 @@ module _ {Y : Type 0} (xs ys : List Y) (d : Y) (n i : ℕ) (f : Refilled xs ys d
         long = length-set xs i y ∙ f .long;
         other-long = f .other-long;
         same = λ k b.
-          ⊎-elim
-          (λ (below : k < i). getD-set-other xs i k y d (λ h. absurd (omega arith)) ∙ f .same k below)
-          (λ (up : i ≤ k). let here : k ≡ i = omega arith in rw here (getD-set-same xs i y d (omega (arith, f .long)) ∙ e))
-          (cases-lt k i);
+            ⊎-elim
+            (λ (below : k < i). getD-set-other xs i k y d (λ h. absurd (omega arith)) ∙ f .same k below)
+            (λ (up : i ≤ k). let here : k ≡ i = omega arith in rw here (getD-set-same xs i y d (omega (arith, f .long)) ∙ e))
+            (cases-lt k i);
       }
 
   pub refilled-all : n ≤ i → xs ≡ ys

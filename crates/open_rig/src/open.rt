@@ -39,7 +39,11 @@ impl OpenRig {
         let Ok(elements) = vec![in heap; ElementRecord { value: 0 }; elements] else {
             return Err(sheet);
         };
-        let mut tables = Tables { sheet, components, elements };
+        let mut tables = Tables {
+            sheet,
+            components,
+            elements,
+        };
         tables.reset_modes();
         tables.reset_values();
         Ok(OpenRig { tables })
@@ -48,7 +52,9 @@ impl OpenRig {
 
 pub impl Rig for OpenRig as OpenRigRig {
     ghost rows = { rows-of };
+
     ghost means = { meaning-of };
+
     ghost fits = { Fits };
 
     fn count(&self, section: usize) -> Option<usize> {

@@ -12,7 +12,9 @@ use view::view::View;
 
 pub(crate) impl View for Tables as TablesView {
     ghost rows = { rows-in };
+
     ghost state = { state-in };
+
     ghost fits = { λ _. Unit {0} };
 
     fn count(&self, section: usize) -> Option<usize> {

@@ -18,10 +18,10 @@ use crate::lines::add_lines;
 use crate::names::name_of_section;
 use crate::names::text_of_reason;
 use crate::rewrite::is_rewritten;
-use reader::accepted::AcceptedSheet;
-use reader::fault::ReadFault;
 use open_rig::open::OpenRig;
 use open_rig::open::OpenRigRig;
+use reader::accepted::AcceptedSheet;
+use reader::fault::ReadFault;
 use reader::read::read;
 use rig::rig::Rig;
 use sheet::numbers::refusal_number;
@@ -90,8 +90,18 @@ fn contents_of_sheet(heap: Global, sheet: &AcceptedSheet) -> Result<String, Allo
 {
     let mut text = String::from_str(heap, "accepted\n")?;
     add_lines(&mut text, heap, &Counts { sheet }, SECTIONS)?;
-    add_lines(&mut text, heap, &Components { sheet }, sheet.count(0).unwrap_or(0))?;
-    add_lines(&mut text, heap, &Questions { sheet }, sheet.count(8).unwrap_or(0))?;
+    add_lines(
+        &mut text,
+        heap,
+        &Components { sheet },
+        sheet.count(0).unwrap_or(0),
+    )?;
+    add_lines(
+        &mut text,
+        heap,
+        &Questions { sheet },
+        sheet.count(8).unwrap_or(0),
+    )?;
     Ok(text)
 }
 

@@ -40,8 +40,8 @@ module _ (s : Sheet) (w : State) (a : accepted s ≡ true) (o : State-of s w) wh
   no-mode c e =
       ⊎-elim
       (λ (l : c < length (rows s components)).
-        let none : held (component-entry (getD (rows s components) c [])) ≡ None = sym (ap (read-by component-entry) (nth-getD (rows s components) c [] l)) ∙ e in
-        absurd (keeps-the-rules s a .components-right .not-faulty c l (holds-or-faulty _ _ none)))
+      let none : held (component-entry (getD (rows s components) c [])) ≡ None = sym (ap (read-by component-entry) (nth-getD (rows s components) c [] l)) ∙ e in
+      absurd (keeps-the-rules s a .components-right .not-faulty c l (holds-or-faulty _ _ none)))
       (λ (l : length (rows s components) ≤ c). getD-past (w .modes) c 0 (omega (arith, o .modes-long)))
       (cases-lt c (length (rows s components)))
 

@@ -17,7 +17,9 @@ struct Seen<'a, R> {
 
 impl<'a, R: Rig> View for Seen<'a, R> as SeenView {
     ghost rows = { λ x. R·Rig .rows (x .rig .now) };
+
     ghost state = { λ x. R·Rig .means (x .rig .now) .state };
+
     ghost fits = { λ x. R·Rig .fits (x .rig .now) };
 
     fn count(&self, section: usize) -> Option<usize> {

@@ -43,7 +43,12 @@ fn open(heap: Global, line: &[u8]) -> Result<Result<OpenRig, Reply>, AnyError>
 }
 
 // Replies to each line that is still to come.
-fn run<R: Rig, B: BufRead + Drop>(rt: &impl Print, heap: Global, rig: &mut R, lines: Lines<B>) -> Result<(), AnyError>
+fn run<R: Rig, B: BufRead + Drop>(
+    rt: &impl Print,
+    heap: Global,
+    rig: &mut R,
+    lines: Lines<B>,
+) -> Result<(), AnyError>
     requires { ⌜ R·Rig .fits (now rig) ⌝ }
 {
     for line in lines {

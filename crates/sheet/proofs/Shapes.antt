@@ -89,10 +89,10 @@ pub row-width : (s : Sheet) (k i : ℕ) → accepted s ≡ true → i < length (
 row-width s k i a l =
     ⊎-elim
     (λ (inside : k < 9).
-      let h = getD shapes k (shape 0 0 0) in
-      let f = shaped-at shapes s k (accepted-shaped s a) inside in
-      let p = and-parts (leb (h .least) (length (rows s k))) (leb (length (rows s k)) (h .most) && wide (h .width) (rows s k)) f in
-      wide-at (h .width) (rows s k) i (and-parts (leb (length (rows s k)) (h .most)) (wide (h .width) (rows s k)) (p .1) .1) l)
+    let h = getD shapes k (shape 0 0 0) in
+    let f = shaped-at shapes s k (accepted-shaped s a) inside in
+    let p = and-parts (leb (h .least) (length (rows s k))) (leb (length (rows s k)) (h .most) && wide (h .width) (rows s k)) f in
+    wide-at (h .width) (rows s k) i (and-parts (leb (length (rows s k)) (h .most)) (wide (h .width) (rows s k)) (p .1) .1) l)
     (λ (past : 9 ≤ k). let none : length (rows s k) ≡ 0 = ap length (getD-past s k [] (omega (arith, nine-sections s a))) in absurd (omega arith))
     (cases-lt k 9)
 

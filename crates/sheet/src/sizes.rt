@@ -40,6 +40,7 @@ pub const MOST_QUESTIONS: u8 = 16;
 pub const SECTIONS: usize = 9;
 // The ends of the number range.
 pub const LEAST_NUMBER: i32 = -32768;
+
 pub const GREATEST_NUMBER: i32 = 32767;
 
 // The most bytes that a program reads of a sheet: more than the longest sheet, which has 2,489.

@@ -48,8 +48,8 @@ module _ (s : Sheet) (k i n : ℕ) (a : accepted s ≡ true) (w : width-of k ≡
   row-whole bytes p some l t =
       ⊎-elim
       (λ (inside : i < length (rows s k)).
-        let long = row-width s k i a inside in
-        let same : bytes ≡ getD (rows s k) i [] = sym (take-all p bytes (omega (arith, t .long))) ∙ t .same ∙ take-all p (getD (rows s k) i []) (omega (arith, w)) in
-        sym (nth-getD (rows s k) i [] inside ∙ ap Some (sym same)))
+      let long = row-width s k i a inside in
+      let same : bytes ≡ getD (rows s k) i [] = sym (take-all p bytes (omega (arith, t .long))) ∙ t .same ∙ take-all p (getD (rows s k) i []) (omega (arith, w)) in
+      sym (nth-getD (rows s k) i [] inside ∙ ap Some (sym same)))
       (λ (past : length (rows s k) ≤ i). absurd (let none : length (getD (rows s k) i []) ≡ 0 = ap length (getD-past (rows s k) i [] past) in omega (arith, t .inside)))
       (cases-lt i (length (rows s k)))

@@ -56,9 +56,9 @@ node-table s w vs table a e n =
     ⊎-elim
     (λ (l : n < 128). grow-at (node-cell s w vs) 128 n nothing l)
     (λ (l : 128 ≤ n).
-      let f = node-cell s w vs in
-      let few = sized s nodes a (omega arith) .few in
-      getD-past (grow f 128) n nothing (omega (arith, length-grow f 128)) ∙ sym (ap (evaluated-if w vs (grow f n)) (there-past _ (rows s nodes) n (omega arith))))
+    let f = node-cell s w vs in
+    let few = sized s nodes a (omega arith) .few in
+    getD-past (grow f 128) n nothing (omega (arith, length-grow f 128)) ∙ sym (ap (evaluated-if w vs (grow f n)) (there-past _ (rows s nodes) n (omega arith))))
     (cases-lt n 128)
 
 -- ---- the flow in force, row by row

@@ -16,7 +16,12 @@ use sheet::rows::Setting;
 
 // What the setting of a row changes if the step is made: an element, and the value that it gets. `worths` has what each
 // node gives.
-pub fn setting_change<V: View>(view: &V, worths: &[Worth], step: Step, row: usize) -> Option<(usize, i32)>
+pub fn setting_change<V: View>(
+    view: &V,
+    worths: &[Worth],
+    step: Step,
+    row: usize,
+) -> Option<(usize, i32)>
     requires { ⌜ Fit (V·View .fits (now view)) (V·View .rows (now view)) ⌝ }
     ensures { λ r. ⌜ r ≡ change-by (V·View .rows (now (view .entry))) (now (worths .entry)) (parts step) (setting-at (V·View .rows (now (view .entry))) row) ⌝ }
 {

@@ -48,7 +48,12 @@ pub fn check_step<V: View>(view: &V, worths: &[Worth], step: Step) -> Result<(),
     }
 }
 
-fn check_alone<V: View>(view: &V, worths: &[Worth], t: usize, x: Transition) -> Result<(), StepRefusal>
+fn check_alone<V: View>(
+    view: &V,
+    worths: &[Worth],
+    t: usize,
+    x: Transition,
+) -> Result<(), StepRefusal>
     requires fits { ⌜ Fit (V·View .fits (now view)) (V·View .rows (now view)) ⌝ }
     requires table { ⌜ ((n : ℕ) → getD (now worths) n nothing ≡ node-value (V·View .rows (now view)) (V·View .state (now view)) n) ⌝ }
     ensures { λ r. ⌜ r ≡ replied (alone-fault (V·View .rows (now (view .entry))) (V·View .state (now (view .entry))) t x) ⌝ }
@@ -65,7 +70,14 @@ fn check_alone<V: View>(view: &V, worths: &[Worth], t: usize, x: Transition) -> 
     Ok(())
 }
 
-fn check_pair<V: View>(view: &V, worths: &[Worth], t: usize, h: usize, x: Transition, y: Transition) -> Result<(), StepRefusal>
+fn check_pair<V: View>(
+    view: &V,
+    worths: &[Worth],
+    t: usize,
+    h: usize,
+    x: Transition,
+    y: Transition,
+) -> Result<(), StepRefusal>
     requires fits { ⌜ Fit (V·View .fits (now view)) (V·View .rows (now view)) ⌝ }
     requires table { ⌜ ((n : ℕ) → getD (now worths) n nothing ≡ node-value (V·View .rows (now view)) (V·View .state (now view)) n) ⌝ }
     ensures { λ r. ⌜ r ≡ replied (pair-fault (V·View .rows (now (view .entry))) (V·View .state (now (view .entry))) t h x y) ⌝ }
@@ -156,7 +168,9 @@ fn carries_event<V: View>(view: &V, k: Option<Connection>, out: u8, into: u8) ->
     ensures { λ r. ⌜ r ≡ is k (carries (V·View .state (now (view .entry))) out into) ⌝ }
 {
     match k {
-        Some(x) => x.out_event == out && x.in_event == into && lists_mode(x.modes, view.mode(x.owner as usize)),
+        Some(x) => x.out_event == out
+            && x.in_event == into
+            && lists_mode(x.modes, view.mode(x.owner as usize)),
         None => false,
     }
 }

@@ -31,7 +31,11 @@ fn worth_at(table: &[Worth], n: u8) -> Worth
     ensures { λ r. ⌜ r ≡ getD (now (table .entry)) n nothing ⌝ }
 {
     let n = n as usize;
-    if n < table.len() { table[n] } else { Worth::Number(0) }
+    if n < table.len() {
+        table[n]
+    } else {
+        Worth::Number(0)
+    }
 }
 
 pub(crate) fn number_at(table: &[Worth], n: u8) -> i32
@@ -68,7 +72,10 @@ fn evaluate<V: View>(view: &V, values: &[i32], before: &[Worth], node: Node) -> 
         Node::Constant(z) => Worth::Number(z),
         Node::Element(e) => Worth::Number(value_at(values, e as usize)),
         Node::Sum(a, b) => Worth::Number(sum_of(number_at(before, a), number_at(before, b))),
-        Node::Difference(a, b) => Worth::Number(difference_of(number_at(before, a), number_at(before, b))),
+        Node::Difference(a, b) => Worth::Number(difference_of(
+            number_at(before, a),
+            number_at(before, b),
+        )),
         Node::True => Worth::Truth(true),
         Node::Equal(a, b) => Worth::Truth(is_same(number_at(before, a), number_at(before, b))),
         Node::Less(a, b) => Worth::Truth(number_at(before, a) < number_at(before, b)),
@@ -146,7 +153,11 @@ fn element_worth<V: View>(view: &V, before: &[i32], e: usize) -> i32
         Kind::Held => view.held(e),
         Kind::Port => {
             match flow_in_force(view, e, view.mode(x.component as usize)) {
-                Some(f) => bring_into(x.lowest, x.highest, number_at(&worths(view, before), f.node)),
+                Some(f) => bring_into(
+                    x.lowest,
+                    x.highest,
+                    number_at(&worths(view, before), f.node),
+                ),
                 None => x.rest,
             }
         }
@@ -154,7 +165,7 @@ fn element_worth<V: View>(view: &V, before: &[i32], e: usize) -> i32
 }
 
 // The values of the elements: each once, in rising order.
-pub fn element_values<V: View>(view: &V) -> [i32; ELEMENT_SLOTS]
+pub(crate) fn element_values<V: View>(view: &V) -> [i32; ELEMENT_SLOTS]
     requires { ⌜ Fit (V·View .fits (now view)) (V·View .rows (now view)) ⌝ }
     ensures { λ r. ⌜ take (length (rows-in-section (V·View .rows (now (view .entry))) elements)) r ≡ values-in (V·View .rows (now (view .entry))) (V·View .state (now (view .entry))) ⌝ }
 {

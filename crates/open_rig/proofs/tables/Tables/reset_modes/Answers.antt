@@ -24,11 +24,12 @@ loop-c-again c =
     let s = rows-in (c .args .self .now) in
     let inv = c .loop-c .inv in
     let x = c .start-mode-mode .result in
-    let e : x ≡ mode-of (start-state s) (c .loop-c .c) = c .start-mode-mode .ensures ∙ ap (λ r. mode-of (start-state r) (c .loop-c .c)) (inv .2) in
-    (refilled-as (modes-in (c .set-mode .last .self)) _ (start-state s .modes) 0 (c .len-count .result) _ (c .set-mode .ensures .modes)
-      (refilled-more (modes-in (c .loop-c .self)) (start-state s .modes) 0 (c .len-count .result) (c .loop-c .c) (inv .0) x (c .loop-c-test .taken) e),
-     c .set-mode .ensures .values ∙ inv .1,
-     c .set-mode .ensures .rows ∙ inv .2)
+    let e : x ≡ mode-of (start-state s) (c .loop-c .c) = c .start-mode-mode .ensures ∙ ap (λ r. mode-of (start-state r) (c .loop-c .c)) (inv .2) in (
+      refilled-as (modes-in (c .set-mode .last .self)) _ (start-state s .modes) 0 (c .len-count .result) _ (c .set-mode .ensures .modes)
+          (refilled-more (modes-in (c .loop-c .self)) (start-state s .modes) 0 (c .len-count .result) (c .loop-c .c) (inv .0) x (c .loop-c-test .taken) e),
+      c .set-mode .ensures .values ∙ inv .1,
+      c .set-mode .ensures .rows ∙ inv .2,
+    )
 
 pub returns : need.returns
 returns c =

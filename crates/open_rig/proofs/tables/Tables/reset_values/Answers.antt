@@ -28,11 +28,12 @@ loop-e-again c =
     let s = rows-in (c .args .self .now) in
     let inv = c .loop-e .inv in
     let x = toZ w32 (ofZ w32 (c .start-value-value .result)) in
-    let e : x ≡ held-of (start-state s) (c .loop-e .e) = toZ-ofZ w32 (c .start-value-value .result) (record { sfits = c .start-value-value .ok }) ∙ c .start-value-value .ensures ∙ ap (λ r. held-of (start-state r) (c .loop-e .e)) (inv .2) in
-    (refilled-as (values-in (c .set-value .last .self)) _ (start-state s .held) (pos 0) (c .len-count .result) _ (c .set-value .ensures .values)
-      (refilled-more (values-in (c .loop-e .self)) (start-state s .held) (pos 0) (c .len-count .result) (c .loop-e .e) (inv .0) x (c .loop-e-test .taken) e),
-     c .set-value .ensures .modes ∙ inv .1,
-     c .set-value .ensures .rows ∙ inv .2)
+    let e : x ≡ held-of (start-state s) (c .loop-e .e) = toZ-ofZ w32 (c .start-value-value .result) (record { sfits = c .start-value-value .ok }) ∙ c .start-value-value .ensures ∙ ap (λ r. held-of (start-state r) (c .loop-e .e)) (inv .2) in (
+      refilled-as (values-in (c .set-value .last .self)) _ (start-state s .held) (pos 0) (c .len-count .result) _ (c .set-value .ensures .values)
+          (refilled-more (values-in (c .loop-e .self)) (start-state s .held) (pos 0) (c .len-count .result) (c .loop-e .e) (inv .0) x (c .loop-e-test .taken) e),
+      c .set-value .ensures .modes ∙ inv .1,
+      c .set-value .ensures .rows ∙ inv .2,
+    )
 
 pub returns : need.returns
 returns c =

@@ -23,10 +23,11 @@ loop-i-again c =
     let inv = c .loop-i .inv in
     let n = count-is s settings (c .args .self .now .sheet .accepted) (omega arith) (c .count .result) (c .count .ensures) in
     let inside : i < length (rows s settings) = omega (arith, c .loop-i-test .taken, c .unwrap-or-count .ensures, n) in
-    let after : values-in (c .apply-setting .last .self) ≡ changed (change-by s t ts (setting-at s i)) vs = c .apply-setting .ensures .values ∙ ap (λ r. changed (change-by r t ts (setting-at r i)) vs) (inv .2) in
-    (ap (settled-by s t ts (drop (i + 1) (rows s settings))) after ∙ settled-more s t ts (rows s settings) i vs (change-by s t ts (setting-at s i)) inside refl ∙ inv .0,
-     c .apply-setting .ensures .modes ∙ inv .1,
-     c .apply-setting .ensures .rows ∙ inv .2)
+    let after : values-in (c .apply-setting .last .self) ≡ changed (change-by s t ts (setting-at s i)) vs = c .apply-setting .ensures .values ∙ ap (λ r. changed (change-by r t ts (setting-at r i)) vs) (inv .2) in (
+      ap (settled-by s t ts (drop (i + 1) (rows s settings))) after ∙ settled-more s t ts (rows s settings) i vs (change-by s t ts (setting-at s i)) inside refl ∙ inv .0,
+      c .apply-setting .ensures .modes ∙ inv .1,
+      c .apply-setting .ensures .rows ∙ inv .2,
+    )
 
 pub returns : need.returns
 returns c =
