@@ -17,4 +17,11 @@ returns c =
       two-unit-bytes = refl;
       two-unit-length = refl;
       no-bytes-report = rw (decimal-digit 1 (lit< tt), decimal-digit 0 (lit< tt));
+      missing-transition = refl;
+      no-pair = refl;
+      not-in-its-from-mode = refl;
+      false-at-the-start = refl;
+      true-after-three-rounds = refl;
+      brought-into-its-range = refl;
+      brought-into-the-number-range = refl;
     }
