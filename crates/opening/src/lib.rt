@@ -1,0 +1,3 @@
+// Sheets opened by a line.
+
+pub mod open;
