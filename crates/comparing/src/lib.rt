@@ -1,4 +1,5 @@
 // One list of calls, given to a pile of cuts and to a whole rig.
+#![tactic(auto)]
 
 pub mod compare;
 mod same;

@@ -3,6 +3,7 @@
 // ten, bit q for question q. SHEET is its bytes in hexadecimal, `-` for none. REPLY is the cut in hexadecimal, or
 // `refused NUMBER A B`. Where SET is `-`, the input has no set, and SHEET is all of it. What goes otherwise begins with
 // `WRONG`.
+#![tactic(auto)]
 
 mod case;
 mod trial;

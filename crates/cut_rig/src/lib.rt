@@ -1,4 +1,5 @@
 // Cuts: rigs above rigs.
+#![tactic(auto)]
 
 pub mod cut;
 mod stays;

@@ -1,5 +1,6 @@
 // Cuts a sheet to some questions: reads a set of questions, two bytes with the low byte first, and a sheet from standard
 // input, and writes the bytes of the cut, or the line of the refusal.
+#![tactic(auto)]
 
 use anyhow::anyhow;
 use cut_bytes::reply::reply_to_input;

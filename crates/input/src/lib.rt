@@ -1,4 +1,5 @@
 // Standard input, read into a buffer.
+#![tactic(auto)]
 
 ghost use Rattle.std.specs.Prelude.{◌≤◌, length, IfOk};
 

@@ -1,4 +1,5 @@
 // Bytes cut into the nine sections of a sheet, without copying them.
+#![tactic(auto)]
 
 pub mod rows;
 

@@ -8,7 +8,7 @@ ghost use Rattle.view.specs.Fit.{Fit};
 ghost use Rattle.moves.specs.Places.{Placed, with_some_value, at_start_modes, at_start_values};
 
 use crate::store::Store;
-use view::answers::{start_mode, start_value};
+use view::answers::{rest_value, start_mode};
 use view::view::View;
 
 // Puts each component into its start mode, and gives each held element its rest value.
@@ -56,7 +56,7 @@ fn reset_value<S: Store>(store: &mut S, e: usize)
     ensures rows { S.View.rows store.new ≡ S.View.rows store.old }
     ensures state { S.View.state store.new ≡ with_some_value (S.View.state store.old) e (rest_held (element_at (S.View.rows store.old) e)) }
 {
-    if let Some(value) = start_value(store, e) {
+    if let Some(value) = rest_value(store, e) {
         store.set_value(e, value);
     }
 }

@@ -1,5 +1,5 @@
 -- A field of each record of a table.
-use Rattle.std.proofs.Common.{◌≡◌, ℕ, zero, suc, ◌<◌, ◌≤◌, List, map, length, get_or, set, replicate, sym, refl, ap, ◌∙◌, arith}
+use Rattle.std.proofs.Common.{◌≡◌, ℕ, ◌<◌, ◌≤◌, List, map, length, get_or, set, sym, refl, ap, ◌∙◌, arith}
 use Rattle.std.proofs.lemmas.List.{length-map, get_or-map, get_or_past, map-set, set_past}
 
 module _ {X Y : Type 0} (f : X → Y) (xs : List X) (n : ℕ) (long : n ≡ length xs) (i : ℕ) where
@@ -13,9 +13,3 @@ module _ {X Y : Type 0} (f : X → Y) (xs : List X) (n : ℕ) (long : n ≡ leng
 
   pub field_unset : (y : Y) → n ≤ i → map f xs ≡ set (map f xs) i y
   field_unset y l = sym (set_past (map f xs) i y (omega (arith, length-map xs f)))
-
--- a table of equal records has the same field everywhere
-pub field_everywhere : {X Y : Type 0} (f : X → Y) (x : X) (n i : ℕ) → get_or (map f (replicate n x)) i (f x) ≡ f x
-field_everywhere f x zero i = refl
-field_everywhere f x (suc n) zero = refl
-field_everywhere f x (suc n) (suc i) = field_everywhere f x n i

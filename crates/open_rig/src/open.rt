@@ -6,13 +6,13 @@ ghost use Rattle.open_rig.specs.Open.{rows_of, meaning_of, Fits, MadeOf};
 ghost use Rattle.std.proofs.Common.{rules};
 
 use crate::tables::{ComponentRecord, ElementRecord, Tables};
-use moves::home::go_home;
-use moves::step::make_step;
 use reader::accepted::AcceptedSheet;
 use rig::rig::Rig;
 use running::kinds::{Step, StepRefusal};
 use std::alloc::Global;
 use view::answers::{mode_told, value_told};
+use view::checks::check_step;
+use view::values::node_values;
 use view::view::View;
 
 // A rig with a record for each component and one for each element.
@@ -39,7 +39,8 @@ impl OpenRig {
             components,
             elements,
         };
-        go_home(&mut tables);
+        tables.reset_modes();
+        tables.reset_values();
         Ok(OpenRig { tables })
     }
 }
@@ -70,10 +71,15 @@ impl Rig for OpenRig {
     }
 
     fn home(&mut self) {
-        go_home(&mut self.tables);
+        self.tables.reset_modes();
+        self.tables.reset_values();
     }
 
     fn step(&mut self, step: Step) -> Result<(), StepRefusal> {
-        make_step(&mut self.tables, step)
+        let worths = node_values(&self.tables);
+        check_step(&self.tables, &worths, step)?;
+        self.tables.settle(&worths, step);
+        self.tables.move_parts(step);
+        Ok(())
     }
 }

@@ -1,3 +1,1 @@
-pub mod CutLines
 pub mod Opens
-pub mod Said

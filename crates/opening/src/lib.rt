@@ -1,7 +1,4 @@
-// Sheets opened by a line, and sessions with the rigs that come of them.
+// Sheets opened by a line.
+#![tactic(auto)]
 
-pub mod cut_line;
-pub mod imaged;
-pub mod images;
 pub mod open;
-pub mod opened;

@@ -1,4 +1,5 @@
 // The packed rig.
+#![tactic(auto)]
 
 pub mod packed;
 mod store;

@@ -1,4 +1,5 @@
 // Sheets read from bytes.
+#![tactic(auto)]
 
 pub mod accepted;
 pub mod cells;

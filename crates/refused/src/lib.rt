@@ -1,4 +1,5 @@
 // The words of a refusal.
+#![tactic(auto)]
 
 ghost use Rattle.std.specs.Prelude.{◌≡◌, IfOk, string_bytes};
 ghost use Rattle.refused.specs.Line.{refused_at};

@@ -1,6 +1,5 @@
 -- What is said of some bytes, in words.
 use Rattle.std.specs.Prelude.{ℕ, zero, suc, List, [], ◌∷◌, ◌++◌, length, Some, None, Ok, Err, codes, decimal, Option, Result, slice_index_or}
-use Rattle.refused.specs.Line.{refused_at}
 use Rattle.sheet.specs.declared.refusal.Reason.{Reason}
 use Rattle.sheet.specs.declared.refusal.Reason.TheVariants.{EndsEarly, LeftOver, CountNotAllowed, WrongByItself, WrongByReference, Clash, ForbiddenResting}
 use Rattle.sheet.specs.declared.refusal.Refusal.{Refusal}
@@ -29,7 +28,7 @@ reason_text ForbiddenResting = codes "a node rests on what it must not"
 
 -- the first line on bytes that are refused: the number, the section and the row
 abbrev pub refused_line : Refusal → List ℕ
-refused_line f = refused_at (number_of f.reason) f.section f.row ++ codes "\n"
+refused_line f = codes "refused " ++ (decimal (number_of f.reason) ++ (codes " " ++ (decimal f.section ++ (codes " " ++ (decimal f.row ++ codes "\n")))))
 
 abbrev pub explained_line : Refusal → List ℕ
 explained_line f = codes "section " ++ (decimal f.section ++ (codes " (" ++ (section_name f.section ++ (codes "), row " ++ (decimal f.row ++ (codes ": " ++ (reason_text f.reason ++ codes "\n")))))))

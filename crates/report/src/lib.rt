@@ -1,4 +1,5 @@
 // What a check of some bytes says, in words.
+#![tactic(auto)]
 
 mod lines;
 mod names;

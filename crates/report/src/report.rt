@@ -12,7 +12,6 @@ use open_rig::open::OpenRig;
 use reader::accepted::AcceptedSheet;
 use reader::fault::ReadFault;
 use reader::read::read;
-use refused::refused_line;
 use rig::rig::Rig;
 use sheet::numbers::refusal_number;
 use sheet::refusal::Refusal;
@@ -33,9 +32,10 @@ pub fn report(heap: Global, bytes: &[u8]) -> Result<String, AllocError>
 fn line_of_refusal(heap: Global, f: Refusal) -> Result<String, AllocError>
     ensures { IfOk result (λ t. string_bytes t ≡ refused_line f) }
 {
-    let mut text = refused_line(heap, refusal_number(f.reason), f.section, f.row)?;
-    text.push('\n')?;
-    Ok(text)
+    let number = refusal_number(f.reason);
+    let section = f.section;
+    let row = f.row;
+    format!(in heap; "refused {number} {section} {row}\n")
 }
 
 fn explanation_of_refusal(heap: Global, f: Refusal) -> Result<String, AllocError>

@@ -1,4 +1,5 @@
 // Rigs: whatever runs a sheet.
+#![tactic(auto)]
 
 pub mod answer;
 pub mod rig;

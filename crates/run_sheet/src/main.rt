@@ -1,16 +1,22 @@
-// Runs a session on a sheet. The first line of standard input is `open` or `packed` and the sheet in hexadecimal; each
-// further line is a call, and its reply is printed as one line. A sheet that is refused gives its refusal, and the
-// session ends.
+// Runs a session on a sheet. The first line of standard input is `open` and the sheet in hexadecimal; each further line
+// is a call, and its reply is printed as one line. A sheet that is refused gives its refusal, and the session ends.
+#![tactic(auto)]
 
-use opening::imaged::{Imaged, text_for_line};
 use opening::open::open_by_line;
-use opening::opened::Opened;
-use session::reply::reply_text;
+use rig::rig::Rig;
+use session::perform::reply_to_line;
+use session::reply::{Reply, reply_text};
 use std::alloc::Global;
 use std::io::{BufRead, BufReader, Lines};
 
+fn print_reply(rt: &impl Print, heap: Global, reply: Reply) -> anyhow::Result<()> {
+    let text = reply_text(heap, reply)?;
+    println!(rt; "{text}")?;
+    Ok(())
+}
+
 // Replies to each line that is still to come.
-fn run<R: Imaged, B: BufRead + Drop>(
+fn run<R: Rig, B: BufRead + Drop>(
     rt: &impl Print,
     heap: Global,
     rig: &mut R,
@@ -19,8 +25,8 @@ fn run<R: Imaged, B: BufRead + Drop>(
     requires { R.Rig.fits rig.old }
 {
     for line in lines {
-        let text = text_for_line(heap, rig, line?.as_bytes())?;
-        println!(rt; "{text}")?;
+        let reply = reply_to_line(rig, line?.as_bytes());
+        print_reply(rt, heap, reply)?;
     }
     Ok(())
 }
@@ -32,12 +38,7 @@ fn main(rt: HostRuntime) -> anyhow::Result<()> {
         return Ok(());
     };
     match open_by_line(heap, first?.as_bytes())? {
-        Ok(Opened::Open(mut rig)) => run(&rt, heap, &mut rig, lines),
-        Ok(Opened::Packed(mut rig)) => run(&rt, heap, &mut rig, lines),
-        Err(reply) => {
-            let text = reply_text(heap, reply)?;
-            println!(rt; "{text}")?;
-            Ok(())
-        }
+        Ok(mut rig) => run(&rt, heap, &mut rig, lines),
+        Err(reply) => print_reply(&rt, heap, reply),
     }
 }

@@ -1,19 +1,16 @@
--- What stands behind a word at the front of a line.
-use Rattle.std.proofs.Common.{◌≡◌, ℕ, ◌+◌, Bool, true, false, cond, List, length, take, drop, Some, None, Decides, Option, refl, ap, ◌∙◌, Bor, MatchOption}
-use Rattle.std.specs.Cmp.Lexicographic.{Matches}
-use Rattle.std.proofs.lemmas.Slice.Eq.{slice_eq-Decides, bytes_eq-Decides}
-use Rattle.std.proofs.lemmas.Bool.Decides.{same_from_decides, Decides-eqb}
+-- A line that opens bytes.
+use Rattle.std.proofs.Common.{◌≡◌, ℕ, ◌-◌, ◌≤◌, true, cond, List, [], ◌∷◌, length, get_or, take, drop, Some, None, codes, Option, sym, ap, ◌∙◌, arith}
+use Rattle.std.proofs.lemmas.List.{take_rest}
 use Rattle.std.specs.Str.{bytes_eq}
-use Rattle.session.specs.Lines.{lent, behind_word}
+use Rattle.session.specs.Lines.{opened}
+use Rattle.session.specs.Sixteen.{hex_of}
 
--- two runs of bytes are compared
-abbrev Compared : List ℕ → List ℕ → Bool → Type 0
-Compared xs ys r = Matches (λ (a b : ℕ) (t : Bool). Decides t (a ≡ b)) xs ys r
-
-pub behind_is : (word line : List ℕ) (r : Option (Bor (List ℕ))) → MatchOption r (Compared (take (length word) line) word false) (λ x. Compared (take (length word) line) word true × (x.now ≡ drop (length word) line) × (length x.now + length word ≡ length line)) → lent r ≡ behind_word word line
-behind_is word line None m =
-    let front = take (length word) line in
-    ap (λ t. cond t (Some (drop (length word) line)) None) (same_from_decides false (bytes_eq front word) (slice_eq-Decides Decides-eqb front word false m) (bytes_eq-Decides front word))
-behind_is word line (Some x) m =
-    let front = take (length word) line in
-    ap Some m.1 ∙ ap (λ t. cond t (Some (drop (length word) line)) None) (same_from_decides true (bytes_eq front word) (slice_eq-Decides Decides-eqb front word true m.0) (bytes_eq-Decides front word))
+-- the line begins with the word and a blank, and the digits follow
+pub opened_behind : (xs : List ℕ) → 5 ≤ length xs → true ≡ bytes_eq (get_or xs 0 0 ∷ get_or xs 1 0 ∷ get_or xs 2 0 ∷ get_or xs 3 0 ∷ get_or xs 4 0 ∷ []) (codes "open ") → hex_of (take (length xs - 5) (drop 5 xs)) ≡ opened xs
+opened_behind [] long e = absurd (omega arith)
+opened_behind (a ∷ []) long e = absurd (omega arith)
+opened_behind (a ∷ b ∷ []) long e = absurd (omega arith)
+opened_behind (a ∷ b ∷ c ∷ []) long e = absurd (omega arith)
+opened_behind (a ∷ b ∷ c ∷ d ∷ []) long e = absurd (omega arith)
+opened_behind (a ∷ b ∷ c ∷ d ∷ g ∷ xs) long e =
+    ap hex_of (take_rest (a ∷ b ∷ c ∷ d ∷ g ∷ xs) 5) ∙ ap (λ t. cond t (hex_of xs) None) e

@@ -1,10 +1,9 @@
 -- What is said of a call.
 use Rattle.std.specs.Prelude.{ℕ, cond, List, ◌++◌, codes, decimal}
 use Rattle.std.specs.Fmt.{signed_decimal}
-use Rattle.refused.specs.Line.{refused_at}
 use Rattle.sheet.specs.Accept.{number_of}
 use Rattle.session.specs.declared.reply.Reply.{Reply}
-use Rattle.session.specs.declared.reply.Reply.TheVariants.{Made, Refused, Truth, Count, Value, Nothing, NotACall, NoSheet, Cut}
+use Rattle.session.specs.declared.reply.Reply.TheVariants.{Made, Refused, Truth, Count, Value, Nothing, NotACall, NoSheet}
 
 -- The line for a reply; a number is written in base ten, a negative one with a minus.
 abbrev pub reply_line : Reply → List ℕ
@@ -15,5 +14,4 @@ reply_line (Count n) = decimal n
 reply_line (Value n) = signed_decimal n
 reply_line Nothing = codes "nothing"
 reply_line NotACall = codes "not a call"
-reply_line (NoSheet f) = refused_at (number_of f.reason) f.section f.row
-reply_line Cut = codes "cut"
+reply_line (NoSheet f) = codes "refused " ++ (decimal (number_of f.reason) ++ (codes " " ++ (decimal f.section ++ (codes " " ++ decimal f.row))))

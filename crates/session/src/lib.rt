@@ -1,8 +1,8 @@
 // The lines of a session: bytes written in base sixteen, calls read, replies written.
+#![tactic(auto)]
 
 pub mod call;
 pub mod hex;
-pub mod kind;
 pub mod line;
 pub mod perform;
 pub mod reply;

@@ -1,15 +1,13 @@
 // Lines read as calls.
 
-ghost use Rattle.std.specs.Prelude.{◌≡◌, true, [], ◌∷◌, is_some, MatchResult};
+ghost use Rattle.std.specs.Prelude.{◌≡◌, true, [], ◌∷◌, is_some, vec_items, MatchResult};
 ghost use Rattle.std.specs.Option.{option_map};
 ghost use Rattle.std.specs.Str.{bytes_eq};
 ghost use Rattle.session.specs.Calls.{words, number_in, call_named, call_of};
-ghost use Rattle.session.specs.Lines.{words_behind, lent, behind_word, with_kind, kind_and_bytes, opened, set_asked};
-ghost use Rattle.session.specs.Sixteen.{hex_of};
+ghost use Rattle.session.specs.Lines.{words_behind, opened};
 
 use crate::call::Call;
 use crate::hex::hex_bytes;
-use crate::kind::RigKind;
 use std::alloc::{AllocError, Global};
 
 // What the line asks, or none where it is no call.
@@ -32,51 +30,18 @@ pub(crate) fn call_of_line(line: &[u8]) -> Option<Call>
     call_by_name(name, &numbers[0..count])
 }
 
-// The rig that a line opens and the bytes of its sheet, or none where it opens nothing.
-pub fn opened_by_line(heap: Global, line: &[u8]) -> Result<Option<(RigKind, Vec<u8>)>, AllocError>
-    ensures { MatchResult result (λ o. option_map kind_and_bytes o ≡ opened line.now) (λ _. is_some (opened line.now) ≡ true) }
+// The bytes that a line opens, or none where it opens nothing.
+pub fn opened_by_line(heap: Global, line: &[u8]) -> Result<Option<Vec<u8>>, AllocError>
+    ensures { MatchResult result (λ o. option_map vec_items o ≡ opened line.now) (λ _. is_some (opened line.now) ≡ true) }
 {
-    if let Some(digits) = behind(line, "open ") {
-        return opened_as(heap, RigKind::Open, digits);
-    }
-    if let Some(digits) = behind(line, "packed ") {
-        return opened_as(heap, RigKind::Packed, digits);
-    }
-    Ok(None)
-}
-
-// The set of questions that a line asks to cut to, or none where it asks no cut.
-pub fn set_by_line(line: &[u8]) -> Option<u16>
-    ensures { result ≡ set_asked line.now }
-{
-    let digits = behind(line, "cut ")?;
-    let number = number_in(digits)?;
-    if number < 65536 {
-        Some(number as u16)
+    let [o, p, e, n, blank, digits @ ..] = line else {
+        return Ok(None);
+    };
+    if is_word(&[*o, *p, *e, *n, *blank], "open ") {
+        hex_bytes(heap, digits)
     } else {
-        None
+        Ok(None)
     }
-}
-
-// The rig of a kind, with the bytes that the digits write.
-fn opened_as(
-    heap: Global,
-    kind: RigKind,
-    digits: &[u8],
-) -> Result<Option<(RigKind, Vec<u8>)>, AllocError>
-    ensures { MatchResult result (λ o. option_map kind_and_bytes o ≡ with_kind kind (hex_of digits.now)) (λ _. is_some (with_kind kind (hex_of digits.now)) ≡ true) }
-{
-    match hex_bytes(heap, digits)? {
-        Some(bytes) => Ok(Some((kind, bytes))),
-        None => Ok(None),
-    }
-}
-
-// What stands behind a word at the front of the line.
-fn behind<'a>(line: &'a [u8], word: &str) -> Option<&'a [u8]>
-    ensures { lent result ≡ behind_word word.now line.now }
-{
-    line.strip_prefix(word.as_bytes())
 }
 
 // The bytes before the first blank, and those behind it where there is one.
@@ -139,8 +104,7 @@ fn call_with_number(name: &[u8], n: usize) -> Option<Call>
     }
 }
 
-// Whether the bytes are the word.
-pub fn is_word(bytes: &[u8], word: &str) -> bool
+fn is_word(bytes: &[u8], word: &str) -> bool
     ensures { result ≡ bytes_eq bytes.now word.now }
 {
     bytes == word.as_bytes()

@@ -2,8 +2,8 @@
 
 ghost use Rattle.std.specs.Prelude.{◌≡◌, IfOk, string_bytes};
 ghost use Rattle.session.specs.Replies.{reply_line};
+ghost use Rattle.session.specs.declared.reply.Reply.TheVariants.{NoSheet};
 
-use refused::refused_line;
 use sheet::numbers::refusal_number;
 use sheet::refusal::Refusal;
 use std::alloc::{AllocError, Global};
@@ -12,7 +12,7 @@ use std::alloc::{AllocError, Global};
 pub enum Reply {
     // A step is made.
     Made,
-    // Refused: the number of the refusal, and the transition or question that it names.
+    // A step is refused, with the number of the refusal and the transition that it names.
     Refused(u8, usize),
     // The answer to a question.
     Truth(bool),
@@ -26,8 +26,6 @@ pub enum Reply {
     NotACall,
     // The bytes that were to be opened are no sheet.
     NoSheet(Refusal),
-    // The rig is cut.
-    Cut,
 }
 
 // The line for a reply, with no line feed.
@@ -42,7 +40,15 @@ pub fn reply_text(heap: Global, reply: Reply) -> Result<String, AllocError>
         Reply::Value(n) => format!(in heap; "{n}"),
         Reply::Nothing => String::from_str(heap, "nothing"),
         Reply::NotACall => String::from_str(heap, "not a call"),
-        Reply::NoSheet(f) => refused_line(heap, refusal_number(f.reason), f.section, f.row),
-        Reply::Cut => String::from_str(heap, "cut"),
+        Reply::NoSheet(refusal) => text_of_refusal(heap, refusal),
     }
+}
+
+fn text_of_refusal(heap: Global, refusal: Refusal) -> Result<String, AllocError>
+    ensures { IfOk result (λ t. string_bytes t ≡ reply_line (NoSheet refusal)) }
+{
+    let number = refusal_number(refusal.reason);
+    let section = refusal.section;
+    let row = refusal.row;
+    format!(in heap; "refused {number} {section} {row}")
 }

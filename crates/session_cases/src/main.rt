@@ -1,16 +1,17 @@
 // Runs sessions on sheets and compares the replies, one line of standard input for each: `NAME|OPEN|SCRIPT`. OPEN is the
 // line that opens a sheet. SCRIPT has `CALL=REPLY`, separated by `;`; where no sheet is opened, it is the reply to OPEN. A
 // line that is blank or begins with `#` is passed over. What goes otherwise begins with `WRONG`.
+#![tactic(auto)]
 
-use opening::imaged::{Imaged, text_for_line};
 use opening::open::open_by_line;
-use opening::opened::Opened;
+use rig::rig::Rig;
+use session::perform::reply_to_line;
 use session::reply::reply_text;
 use std::alloc::Global;
 use std::io::{BufRead, BufReader};
 
 // Makes each call of the script, and gives the first one whose reply is not the expected one.
-fn first_wrong<'a, R: Imaged>(
+fn first_wrong<'a, R: Rig>(
     heap: Global,
     rig: &mut R,
     script: &'a str,
@@ -21,7 +22,7 @@ fn first_wrong<'a, R: Imaged>(
         let Some((call, expected)) = part.split_once('=') else {
             return Ok(Some(part));
         };
-        let reply = text_for_line(heap, rig, call.as_bytes())?;
+        let reply = reply_text(heap, reply_to_line(rig, call.as_bytes()))?;
         if reply.as_str() != expected {
             return Ok(Some(part));
         }
@@ -32,8 +33,7 @@ fn first_wrong<'a, R: Imaged>(
 // Opens the sheet and runs the script on it.
 fn run_session<'a>(heap: Global, open: &str, script: &'a str) -> anyhow::Result<Option<&'a str>> {
     match open_by_line(heap, open.as_bytes())? {
-        Ok(Opened::Open(mut rig)) => first_wrong(heap, &mut rig, script),
-        Ok(Opened::Packed(mut rig)) => first_wrong(heap, &mut rig, script),
+        Ok(mut rig) => first_wrong(heap, &mut rig, script),
         Err(reply) => {
             let text = reply_text(heap, reply)?;
             Ok(if text.as_str() == script {

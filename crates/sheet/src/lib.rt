@@ -1,4 +1,5 @@
 // The definitions of the sheet language: what a sheet is, which bytes are one, and how its rows read.
+#![tactic(auto)]
 
 pub mod decode;
 pub mod numbers;

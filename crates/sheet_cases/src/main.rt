@@ -1,6 +1,7 @@
 // Runs the cases of a table on standard input against the reader and the writer of sheets, and prints a line for
 // each. A line of the table is blank, a comment that begins with `#`, or a case `NAME HEX EXPECTED`: the bytes in
 // hexadecimal, `-` for none, and `accepted` or `refused NUMBER SECTION ROW`. What goes otherwise begins with `WRONG`.
+#![tactic(auto)]
 
 mod case;
 mod trial;

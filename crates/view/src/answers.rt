@@ -1,7 +1,7 @@
 // What is told of a state: modes, values, and the truth of questions.
 
 ghost use Rattle.std.specs.Prelude.{◌≡◌};
-ghost use Rattle.running.specs.States.{mode_of, start_state};
+ghost use Rattle.running.specs.States.{mode_of, held_of, start_state};
 ghost use Rattle.running.specs.Steps.{answer_of, mode_at, value_at};
 ghost use Rattle.sheet.specs.Lookup.{element_at};
 ghost use Rattle.view.specs.Checks.{rest_held};
@@ -59,8 +59,22 @@ pub fn start_mode<V: View>(view: &V, c: usize) -> u8
     }
 }
 
-// The value of a held element at the start, or nothing where none is held.
-pub fn start_value<V: View>(view: &V, e: usize) -> Option<i32>
+// The value of a held element at the start; 0 where there is none.
+pub fn start_value<V: View>(view: &V, e: usize) -> i32
+    requires { Fit (V.View.fits view.now) (V.View.rows view.now) }
+    ensures { result ≡ held_of (start_state (V.View.rows view.now)) e }
+{
+    let Some(x) = element(view, e) else {
+        return 0;
+    };
+    match x.kind {
+        Kind::Held => x.rest,
+        Kind::Port => 0,
+    }
+}
+
+// The rest value of a held element, or nothing where none is held.
+pub fn rest_value<V: View>(view: &V, e: usize) -> Option<i32>
     requires { Fit (V.View.fits view.now) (V.View.rows view.now) }
     ensures { result ≡ rest_held (element_at (V.View.rows view.now) e) }
 {

@@ -1,4 +1,5 @@
 // The worked examples of the definitions.
+#![tactic(auto)]
 
 ghost use Rattle.worked_examples.specs.Table.{Examples};
 

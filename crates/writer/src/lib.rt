@@ -1,4 +1,5 @@
 // Sheets written to the front of a buffer.
+#![tactic(auto)]
 
 pub mod fault;
 pub mod front;
