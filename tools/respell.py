@@ -42,7 +42,7 @@ def code(line):
 def library_names(files):
     names = set()
     for path in files:
-        for m in re.finditer(r"use Rattle\.std\.[\w.]+\.\{([^}]*)\}|use (?:borrow|mir|denote|native)\.[\w.]+\.\{([^}]*)\}", open(path).read()):
+        for m in re.finditer(r"use Rattle\.std\.[\w.]+\.\{([^}]*)\}|use (?:borrow|mir|denote|native|mathlib|lib)\.[\w.]+\.\{([^}]*)\}", open(path).read()):
             for item in (m.group(1) or m.group(2)).split(","):
                 names.add(item.strip().split(" as ")[0])
     return names
@@ -66,6 +66,11 @@ def defined(files):
                     names.update(m.group(1).split())
             for m in LET.finditer(line):
                 names.add(m.group(1))
+    for path in glob.glob("crates/*/src/*.rt"):
+        for line in map(code, open(path)):
+            if line.startswith("ghost use "):
+                for m in ALIAS.finditer(line):
+                    names.add(m.group(1))
     return names
 
 

@@ -4,7 +4,7 @@ ghost use Rattle.std.specs.Prelude.{◌≡◌, ℕ, ◌<◌, true, false, length
 ghost use Rattle.cutting.specs.CutSheet.{cut_fault};
 ghost use Rattle.cutting.specs.Kept.{chosen_in};
 ghost use Rattle.marking.specs.Items.{places};
-ghost use Rattle.marking.specs.Passes.{unmarked as unmarked-in, OfSection, EveryRow, Passed, Asked, Settled};
+ghost use Rattle.marking.specs.Passes.{unmarked as unmarked_in, OfSection, EveryRow, Passed, Asked, Settled};
 ghost use Rattle.view.specs.Fit.{Fit};
 ghost use Rattle.closing.specs.Marks.{KeepsFor};
 
@@ -46,7 +46,7 @@ fn pass<V: View>(view: &V, marks: &mut Marks) -> bool
     requires fits { Fit (V.View.fits view.now) (V.View.rows view.now) }
     requires whole { length marks.old.table ≡ places }
     ensures passed { Passed (V.View.rows view.now) EveryRow marks.old.table marks.new.table }
-    ensures new { result ≡ true → unmarked-in marks.new.table < unmarked-in marks.old.table }
+    ensures new { result ≡ true → unmarked_in marks.new.table < unmarked_in marks.old.table }
     ensures same { result ≡ false → marks.new.table ≡ marks.old.table }
 {
     let before = marks.unmarked();

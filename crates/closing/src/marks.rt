@@ -4,7 +4,7 @@ ghost use Rattle.std.specs.Prelude.{◌≡◌, false, length};
 ghost use Rattle.sheet.specs.Lookup.{is};
 ghost use Rattle.marking.specs.Items.{places, place, marked, with_mark};
 ghost use Rattle.marking.specs.Rules.{caused, with_mark_of, with_modes, with_items, applied, mode_numbers};
-ghost use Rattle.marking.specs.Passes.{unmarked as unmarked-in};
+ghost use Rattle.marking.specs.Passes.{unmarked as unmarked_in};
 ghost use Rattle.closing.specs.Marks.{kept_of, node_kept};
 
 use cutting::kinds::Thing;
@@ -170,7 +170,7 @@ impl Marks {
 
     // How many places are not marked.
     pub(crate) fn unmarked(&self) -> usize
-        ensures { result ≡ unmarked-in self.now.table }
+        ensures { result ≡ unmarked_in self.now.table }
     {
         let mut count = 0;
         for p in 0..PLACES {

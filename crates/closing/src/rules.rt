@@ -3,7 +3,7 @@
 ghost use Rattle.std.specs.Prelude.{◌≡◌};
 ghost use Rattle.std.specs.Option.{option_map};
 ghost use Rattle.sheet.specs.Lookup.{node_at, flow_at, setting_at};
-ghost use Rattle.marking.specs.Rules.{element_item, event_item, mode_item, node_item, items as three-items, named_items, node_rule, flow_rule_at, setting_rule_at, connection_rule as rule-of-connection, transition_rule as rule-of-transition, rule_at as the-rule-at};
+ghost use Rattle.marking.specs.Rules.{element_item, event_item, mode_item, node_item, items as three_items, named_items, node_rule, flow_rule_at, setting_rule_at, connection_rule as rule_of_connection, transition_rule as rule_of_transition, rule_at as the_rule_at};
 ghost use Rattle.view.specs.Fit.{Fit};
 
 use cutting::kinds::Thing;
@@ -50,7 +50,7 @@ fn node_item(n: u8) -> Option<Item>
 }
 
 fn items(first: Option<Item>, second: Option<Item>, third: Option<Item>) -> Items
-    ensures { result ≡ three-items first second third }
+    ensures { result ≡ three_items first second third }
 {
     Items {
         first,
@@ -113,7 +113,7 @@ fn rule_of_flow<V: View>(view: &V, i: usize) -> Option<Rule>
 
 // Either event of a connection leads to both, and to the connection's modes of its owner.
 fn connection_rule(link: Connection) -> Rule
-    ensures { result ≡ rule-of-connection link }
+    ensures { result ≡ rule_of_connection link }
 {
     Rule {
         causes: items(event_item(link.out_event), event_item(link.in_event), None),
@@ -125,7 +125,7 @@ fn connection_rule(link: Connection) -> Rule
 
 // The from mode of a transition, its to mode and its event lead to its from mode, its event and its guard.
 fn transition_rule(y: Transition) -> Rule
-    ensures { result ≡ rule-of-transition y }
+    ensures { result ≡ rule_of_transition y }
 {
     let event = match y.event {
         Some(v) => event_item(v),
@@ -162,7 +162,7 @@ fn rule_of_setting<V: View>(view: &V, i: usize) -> Option<Rule>
 // The rule of a row of a section, if there is one.
 pub(crate) fn rule_at<V: View>(view: &V, section: usize, row: usize) -> Option<Rule>
     requires { Fit (V.View.fits view.now) (V.View.rows view.now) }
-    ensures { result ≡ the-rule-at (V.View.rows view.now) section row }
+    ensures { result ≡ the_rule_at (V.View.rows view.now) section row }
 {
     match section {
         NODES => rule_of_node(view, row),

@@ -1,7 +1,7 @@
 // The bits of each field.
 
 ghost use Rattle.std.specs.Prelude.{◌≡◌, ℕ, ◌<◌, ◌≤◌, true, length, pos, negsuc, int_le, slice_index};
-ghost use Rattle.image.specs.Fields.{above as above-lowest};
+ghost use Rattle.image.specs.Fields.{above as above_lowest};
 ghost use Rattle.image.specs.Reading.{widths};
 ghost use Rattle.reader.specs.Means.{rows_held};
 ghost use Rattle.sheet.specs.Lookup.{component_at, element_at};
@@ -16,7 +16,7 @@ pub fn above(lowest: i32, value: i32) -> u32
     requires ordered { int_le lowest value ≡ true }
     requires least { int_le (negsuc 32767) lowest ≡ true }
     requires most { int_le value (pos 32767) ≡ true }
-    ensures { result ≡ above-lowest lowest value }
+    ensures { result ≡ above_lowest lowest value }
 {
     (value - lowest) as u32
 }

@@ -1,6 +1,6 @@
 -- A state, the numbers in its fields, and its image.
 use Rattle.std.proofs.Common.{◌≡◌, ℕ, zero, suc, ◌+◌, ◌-◌, ◌*◌, ◌^◌, ◌<◌, ◌≤◌, true, List, [], ◌∷◌, ◌++◌, map, length, get_or, take, drop, set, ℤ, pos, sym, refl, ap, ◌∙◌, subst, ap₂, suc-le-suc, arith}
-use mathlib.Core.List.{map_append}
+use mathlib.Core.List.{map-append}
 use lib.Lanes.{zip2}
 use Rattle.std.proofs.lemmas.List.{length-append, length-map, length-take-le, length-drop, take_at, drop_at}
 use Rattle.sheet.specs.Sections.{Row, Sheet, rows, components, elements}
@@ -55,12 +55,12 @@ pub record Placed (s : Sheet) (w : State) : Type 0 where
 module _ (s : Sheet) (w : State) (p : Placed s w) where
   widths_are : map (λ (f : Field). f.bits) (fields s w) ≡ widths s
   widths_are =
-      map_append (λ (f : Field). f.bits) (zip2 mode_field (rows s components) w.modes) (zip2 value_field (rows s elements) w.held)
+      map-append (λ (f : Field). f.bits) (zip2 mode_field (rows s components) w.modes) (zip2 value_field (rows s elements) w.held)
       ∙ ap₂ (λ xs ys. xs ++ ys) (mode_widths (rows s components) w.modes p.modes_long) (value_widths (rows s elements) w.held p.held_long)
 
   numbers_are : map (λ (f : Field). f.value) (fields s w) ≡ numbers_of s w
   numbers_are =
-      map_append (λ (f : Field). f.value) (zip2 mode_field (rows s components) w.modes) (zip2 value_field (rows s elements) w.held)
+      map-append (λ (f : Field). f.value) (zip2 mode_field (rows s components) w.modes) (zip2 value_field (rows s elements) w.held)
       ∙ ap₂ (λ xs ys. xs ++ ys) (mode_numbers (rows s components) w.modes p.modes_long) (value_numbers (rows s elements) w.held)
 
   -- the image by widths and numbers

@@ -4,9 +4,9 @@
 pub mod rows;
 
 ghost use Rattle.std.specs.Prelude.{◌≡◌, ℕ, ◌+◌, ◌*◌, ◌<◌, ◌≤◌, true, length};
-ghost use Rattle.sheet.specs.Sections.{shape, shapes, bytes as are-bytes};
+ghost use Rattle.sheet.specs.Sections.{shape, shapes, bytes as are_bytes};
 ghost use Rattle.layout.specs.Laid.{rows_of, LaysOut};
-ghost use Rattle.layout.specs.Sections.{section as section-in, sections, Tells};
+ghost use Rattle.layout.specs.Sections.{section as section_in, sections, Tells};
 
 use rows::Layout;
 use sheet::refusal::{Reason, Refusal};
@@ -20,7 +20,7 @@ use sheet::sizes::{
 // The sections of a sheet where they lie in the bytes, or the first fault of the layout.
 pub fn lay_out(bytes: &[u8]) -> Result<Layout<'_>, Refusal>
     ensures answer { LaysOut bytes.now result }
-    ensures typed { are-bytes bytes.now ≡ true }
+    ensures typed { are_bytes bytes.now ≡ true }
 {
     take_sections(bytes)
 }
@@ -33,8 +33,8 @@ fn take_section<const N: usize>(
     most: u8,
 ) -> Result<(&[[u8; N]], &[u8]), Refusal>
     requires { (0 < N) × (N ≤ 8) }
-    ensures answer { Tells (λ p. (p.0.now, p.1.now)) (section-in section (shape N least most) bytes.now) result }
-    ensures typed { are-bytes bytes.now ≡ true }
+    ensures answer { Tells (λ p. (p.0.now, p.1.now)) (section_in section (shape N least most) bytes.now) result }
+    ensures typed { are_bytes bytes.now ≡ true }
 {
     let Some((count, rest)) = bytes.split_first() else {
         return Err(Refusal {
@@ -67,7 +67,7 @@ fn take_section<const N: usize>(
 // The nine sections, with nothing behind them.
 fn take_sections(bytes: &[u8]) -> Result<Layout<'_>, Refusal>
     ensures answer { Tells rows_of (sections 0 shapes bytes.now) result }
-    ensures typed { are-bytes bytes.now ≡ true }
+    ensures typed { are_bytes bytes.now ≡ true }
 {
     let (components, rest) = take_section::<COMPONENT_BYTES>(bytes, 0, 1, MOST_COMPONENTS)?;
     let (elements, rest) = take_section::<ELEMENT_BYTES>(rest, 1, 0, MOST_ELEMENTS)?;

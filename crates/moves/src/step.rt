@@ -3,7 +3,7 @@
 ghost use Rattle.std.specs.Prelude.{◌≡◌, ℕ};
 ghost use Rattle.running.specs.Steps.{parts, moved_by, moved, step_reply, step_state};
 ghost use Rattle.sheet.specs.Lookup.{transition_at, setting_at};
-ghost use Rattle.sheet.specs.Sections.{rows as rows-in-section, settings};
+ghost use Rattle.sheet.specs.Sections.{rows as rows_in_section, settings};
 ghost use Rattle.view.specs.Checks.{change_by, changed};
 ghost use Rattle.view.specs.Fit.{Fit};
 ghost use Rattle.moves.specs.Places.{with_modes, with_values};
@@ -65,7 +65,7 @@ fn settle<S: Store>(store: &mut S, worths: &[Worth], step: Step)
     requires { Fit (S.View.fits store.old) (S.View.rows store.old) }
     ensures still_fits { S.View.fits store.new }
     ensures rows { S.View.rows store.new ≡ S.View.rows store.old }
-    ensures state { S.View.state store.new ≡ with_values (S.View.state store.old) (settled_by (S.View.rows store.old) worths.now (parts step) (rows-in-section (S.View.rows store.old) settings) (S.View.state store.old).held) }
+    ensures state { S.View.state store.new ≡ with_values (S.View.state store.old) (settled_by (S.View.rows store.old) worths.now (parts step) (rows_in_section (S.View.rows store.old) settings) (S.View.state store.old).held) }
 {
     let count = store.count(7).unwrap_or(0);
     for i in 0..count {

@@ -5,7 +5,7 @@ ghost use Rattle.running.specs.States.{start_state};
 ghost use Rattle.running.specs.Steps.{parts, moved_by, moved};
 ghost use Rattle.sheet.specs.Lookup.{transition_at, setting_at};
 ghost use Rattle.view.specs.Checks.{change_by, changed};
-ghost use Rattle.sheet.specs.Sections.{rows as rows-in-section, components as component-section, elements as element-section, settings};
+ghost use Rattle.sheet.specs.Sections.{rows as rows_in_section, components as component_section, elements as element_section, settings};
 ghost use Rattle.open_rig.specs.Settle.{settled_by};
 ghost use Rattle.open_rig.specs.Tables.{modes_in, values_in, rows_in};
 
@@ -19,7 +19,7 @@ use view::view::View;
 impl Tables {
     // Puts each component into its start mode.
     pub(crate) fn reset_modes(&mut self)
-        requires { length (modes_in self.old) ≡ length (rows-in-section (rows_in self.old) component-section) }
+        requires { length (modes_in self.old) ≡ length (rows_in_section (rows_in self.old) component_section) }
         ensures modes { modes_in self.new ≡ (start_state (rows_in self.old)).modes }
         ensures values { values_in self.new ≡ values_in self.old }
         ensures rows { rows_in self.new ≡ rows_in self.old }
@@ -33,7 +33,7 @@ impl Tables {
 
     // Gives each held element its rest value.
     pub(crate) fn reset_values(&mut self)
-        requires { length (values_in self.old) ≡ length (rows-in-section (rows_in self.old) element-section) }
+        requires { length (values_in self.old) ≡ length (rows_in_section (rows_in self.old) element_section) }
         ensures modes { modes_in self.new ≡ modes_in self.old }
         ensures values { values_in self.new ≡ (start_state (rows_in self.old)).held }
         ensures rows { rows_in self.new ≡ rows_in self.old }
@@ -74,7 +74,7 @@ impl Tables {
     // Gives the elements that the step sets their new values. `worths` has what each node gave before it.
     pub(crate) fn settle(&mut self, worths: &[Worth], step: Step)
         ensures modes { modes_in self.new ≡ modes_in self.old }
-        ensures values { values_in self.new ≡ settled_by (rows_in self.old) worths.now (parts step) (rows-in-section (rows_in self.old) settings) (values_in self.old) }
+        ensures values { values_in self.new ≡ settled_by (rows_in self.old) worths.now (parts step) (rows_in_section (rows_in self.old) settings) (values_in self.old) }
         ensures rows { rows_in self.new ≡ rows_in self.old }
     {
         let count = self.sheet.count(7).unwrap_or(0);

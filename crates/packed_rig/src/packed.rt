@@ -1,7 +1,7 @@
 // The packed rig itself.
 
 ghost use Rattle.std.specs.Prelude.{◌≡◌, ℕ, List};
-ghost use Rattle.image.specs.Fields.{image as image-of};
+ghost use Rattle.image.specs.Fields.{image as image_of};
 ghost use Rattle.image.specs.Laws.{ImagesReadBack, ImagesTellStates, LengthsBySheets};
 ghost use Rattle.reader.specs.Means.{rows_held};
 ghost use Rattle.writer.specs.Written.{Written};
@@ -46,7 +46,7 @@ impl PackedRig {
     // needed.
     pub fn image(&self, out: &mut [u8]) -> Result<usize, TooShort>
         requires { Fits self.now }
-        ensures written { Written (image-of (rows_of self.now) (meaning_of self.now).state) out.old out.new result }
+        ensures written { Written (image_of (rows_of self.now) (meaning_of self.now).state) out.old out.new result }
         ensures images_read_back { ImagesReadBack }
         ensures images_tell_states { ImagesTellStates }
         ensures lengths_by_sheets { LengthsBySheets }

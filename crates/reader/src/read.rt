@@ -2,7 +2,7 @@
 
 ghost use Rattle.std.specs.Prelude.{◌≡◌, ℕ, true, IfOk};
 ghost use Rattle.layout.specs.Laid.{rows_of};
-ghost use Rattle.sheet.specs.Accept.{accepted as accepts, verdict as verdict-on};
+ghost use Rattle.sheet.specs.Accept.{accepted as accepts, verdict as verdict_on};
 ghost use Rattle.sheet.specs.Laws.{NamesTheFirstFault, AcceptanceIsKeepingTheRules};
 ghost use Rattle.reader.specs.Means.{rows_held};
 ghost use Rattle.reader.specs.Reads.{Reads, WritesTheSameBytes, KeepsEveryRule};
@@ -17,7 +17,7 @@ use std::alloc::{AllocError, Global};
 
 // The verdict on any bytes: accepted, or refused by the first fault.
 pub fn verdict(bytes: &[u8]) -> Result<(), Refusal>
-    ensures value { result ≡ verdict-on bytes.now }
+    ensures value { result ≡ verdict_on bytes.now }
     ensures names_the_first_fault { NamesTheFirstFault bytes.now result }
     ensures acceptance_is_keeping_the_rules { AcceptanceIsKeepingTheRules }
 {

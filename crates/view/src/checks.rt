@@ -1,12 +1,12 @@
 // The checks of a step.
 
 ghost use Rattle.std.specs.Prelude.{◌≡◌, ℕ, slice_index_or};
-ghost use Rattle.running.specs.Steps.{sends as sends-by, hears as hears-by, carries, any_carries, replied, step_reply};
+ghost use Rattle.running.specs.Steps.{sends as sends_by, hears as hears_by, carries, any_carries, replied, step_reply};
 ghost use Rattle.running.specs.Values.{nothing, node_value};
 ghost use Rattle.sheet.specs.Lookup.{is};
 ghost use Rattle.sheet.specs.Rules.{outward};
-ghost use Rattle.sheet.specs.Sections.{rows as rows-in-section, connections};
-ghost use Rattle.view.specs.Checks.{is_in_from_mode, has_true_guard, alone_fault, are_a_pair, is_carried as carried-by, pair_fault};
+ghost use Rattle.sheet.specs.Sections.{rows as rows_in_section, connections};
+ghost use Rattle.view.specs.Checks.{is_in_from_mode, has_true_guard, alone_fault, are_a_pair, is_carried as carried_by, pair_fault};
 ghost use Rattle.view.specs.Fit.{Fit};
 
 use crate::typed::{connection, event, transition};
@@ -112,7 +112,7 @@ fn guard_is_true<V: View>(view: &V, worths: &[Worth], x: Transition) -> bool
 // Whether there is an event, and it goes out.
 fn sends<V: View>(view: &V, named: Option<u8>) -> bool
     requires { Fit (V.View.fits view.now) (V.View.rows view.now) }
-    ensures { result ≡ sends-by (V.View.rows view.now) named }
+    ensures { result ≡ sends_by (V.View.rows view.now) named }
 {
     let Some(v) = named else {
         return false;
@@ -126,7 +126,7 @@ fn sends<V: View>(view: &V, named: Option<u8>) -> bool
 // Whether there is an event, and it comes in.
 fn hears<V: View>(view: &V, named: Option<u8>) -> bool
     requires { Fit (V.View.fits view.now) (V.View.rows view.now) }
-    ensures { result ≡ hears-by (V.View.rows view.now) named }
+    ensures { result ≡ hears_by (V.View.rows view.now) named }
 {
     let Some(v) = named else {
         return false;
@@ -170,7 +170,7 @@ fn carries_event<V: View>(view: &V, k: Option<Connection>, out: u8, into: u8) ->
 // Whether some connection carries the one event to the other.
 fn any_connection_carries<V: View>(view: &V, out: u8, into: u8) -> bool
     requires { Fit (V.View.fits view.now) (V.View.rows view.now) }
-    ensures { result ≡ any_carries (V.View.state view.now) out into (rows-in-section (V.View.rows view.now) connections) }
+    ensures { result ≡ any_carries (V.View.state view.now) out into (rows_in_section (V.View.rows view.now) connections) }
 {
     let count = view.count(5).unwrap_or(0);
     for i in 0..count {
@@ -183,7 +183,7 @@ fn any_connection_carries<V: View>(view: &V, out: u8, into: u8) -> bool
 
 fn is_carried<V: View>(view: &V, sent: Option<u8>, heard: Option<u8>) -> bool
     requires { Fit (V.View.fits view.now) (V.View.rows view.now) }
-    ensures { result ≡ carried-by (V.View.rows view.now) (V.View.state view.now) sent heard }
+    ensures { result ≡ carried_by (V.View.rows view.now) (V.View.state view.now) sent heard }
 {
     let Some(out) = sent else {
         return false;

@@ -2,7 +2,7 @@
 
 ghost use Rattle.std.specs.Prelude.{◌≡◌, ℕ, ◌<◌};
 ghost use Rattle.sheet.specs.Lookup.{there, component_at, element_at, event_at, node_at, flow_at, connection_at, transition_at, setting_at, question_at};
-ghost use Rattle.sheet.specs.Sections.{rows as rows-in-section, width_of};
+ghost use Rattle.sheet.specs.Sections.{rows as rows_in_section, width_of};
 ghost use Rattle.std.specs.List.{slice_get};
 ghost use Rattle.view.specs.Fit.{Fit};
 
@@ -21,7 +21,7 @@ fn bytes_of<const N: usize, V: View>(view: &V, section: usize, row: usize) -> Op
     requires fits { Fit (V.View.fits view.now) (V.View.rows view.now) }
     requires wide { width_of section ≡ N }
     requires some { 0 < N }
-    ensures { result ≡ slice_get (rows-in-section (V.View.rows view.now) section) row }
+    ensures { result ≡ slice_get (rows_in_section (V.View.rows view.now) section) row }
 {
     let mut bytes = [0u8; N];
     for place in 0..N {
@@ -38,7 +38,7 @@ fn typed<const N: usize, R: FromRow<N>, V: View>(view: &V, section: usize, row: 
     requires fits { Fit (V.View.fits view.now) (V.View.rows view.now) }
     requires wide { width_of section ≡ N }
     requires some { 0 < N }
-    ensures { result ≡ there R.FromRow.entry (rows-in-section (V.View.rows view.now) section) row }
+    ensures { result ≡ there R.FromRow.entry (rows_in_section (V.View.rows view.now) section) row }
 {
     let Some(bytes) = bytes_of::<N, V>(view, section, row) else {
         return None;

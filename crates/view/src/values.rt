@@ -2,7 +2,7 @@
 
 ghost use Rattle.std.specs.Prelude.{◌≡◌, ℕ, length, take, ℤ, pos, slice_index_or};
 ghost use Rattle.running.specs.Values.{number_in, truth_in, nothing, evaluated, node_cell, node_over, in_force, feeds, lists, element_cell, values as values_in, node_value};
-ghost use Rattle.sheet.specs.Sections.{rows as rows-in-section, elements, flows};
+ghost use Rattle.sheet.specs.Sections.{rows as rows_in_section, elements, flows};
 ghost use Rattle.view.specs.Fit.{Fit};
 
 use crate::numbers::{bring_into, difference_of, is_same, sum_of};
@@ -119,7 +119,7 @@ fn feeds_port(f: Option<Flow>, port: usize, mode: u8) -> bool
 // The flow to a port that is in force in a mode of its component.
 fn flow_in_force<V: View>(view: &V, port: usize, mode: u8) -> Option<Flow>
     requires { Fit (V.View.fits view.now) (V.View.rows view.now) }
-    ensures { result ≡ in_force (rows-in-section (V.View.rows view.now) flows) port mode }
+    ensures { result ≡ in_force (rows_in_section (V.View.rows view.now) flows) port mode }
 {
     let count = view.count(4).unwrap_or(0);
     for i in 0..count {
@@ -157,7 +157,7 @@ fn element_worth<V: View>(view: &V, before: &[i32], e: usize) -> i32
 // The values of the elements: each once, in rising order.
 pub(crate) fn element_values<V: View>(view: &V) -> [i32; ELEMENT_SLOTS]
     requires { Fit (V.View.fits view.now) (V.View.rows view.now) }
-    ensures { take (length (rows-in-section (V.View.rows view.now) elements)) result ≡ values_in (V.View.rows view.now) (V.View.state view.now) }
+    ensures { take (length (rows_in_section (V.View.rows view.now) elements)) result ≡ values_in (V.View.rows view.now) (V.View.state view.now) }
 {
     let mut table = [0i32; ELEMENT_SLOTS];
     for e in 0..ELEMENT_SLOTS {

@@ -17,4 +17,4 @@ lays_out bs (Ok l) e =
 lays_out bs (Err f) e = judged_err (rows_in bs) (first_fault (layout_tries 0 shapes bs)) f (sym (sections_are 0 shapes bs) ∙ e)
 
 pub returns : goal.returns
-returns c = record { answer = lays_out c.args.bytes.now c.take-sections.result c.take-sections.ensures.answer; typed = c.take-sections.ensures.typed }
+returns c = record { answer = lays_out c.args.bytes.now c.take_sections.result c.take_sections.ensures.answer; typed = c.take_sections.ensures.typed }

@@ -6,11 +6,11 @@ use Rattle.layout.proofs.Cuts.{missing, not_allowed, short, whole, chunked_front
 use Rattle.layout.proofs.take_section.Goals as goal
 use Rattle.layout.proofs.take_section.Goals.{then-count-least-via-then-count-least, then-count-least-via-else-count-least+then-count-most}
 
-pub returns-in-default : goal.returns-in-default
-returns-in-default g c =
+pub returns-in_default : goal.returns-in_default
+returns-in_default g c =
     record {
-      answer = missing c.args.section (shape g.row.N c.args.least c.args.most) c.args.bytes.now c.in-default.ensures.cases;
-      typed = bytes_from c.args.bytes.now c.type-inv.bytes;
+      answer = missing c.args.section (shape g.row.N c.args.least c.args.most) c.args.bytes.now c.in_default.ensures.cases;
+      typed = bytes_from c.args.bytes.now c.type_inv.bytes;
     }
 
 pub returns-then-count-least : goal.returns-then-count-least
@@ -18,29 +18,29 @@ returns-then-count-least g c =
     record {
       answer = not_allowed c.args.section (shape g.row.N c.args.least c.args.most) c.args.bytes.now c.in-Some.count.now c.in-Some.rest.now c.in-Some.ensures.cases.0
           (elim c.then-count-least.branch [ then-count-least-via-then-count-least w ↦ inl w.if-count-least.true | then-count-least-via-else-count-least+then-count-most w ↦ inr w.if-count-most.true ]);
-      typed = bytes_from c.args.bytes.now c.type-inv.bytes;
+      typed = bytes_from c.args.bytes.now c.type_inv.bytes;
     }
 
-pub returns-then-whole-rows-count : goal.returns-then-whole-rows-count
-returns-then-whole-rows-count g c =
+pub returns-then-whole_rows-count : goal.returns-then-whole_rows-count
+returns-then-whole_rows-count g c =
     record {
-      answer = short c.args.section (shape g.row.N c.args.least c.args.most) c.args.bytes.now c.in-Some.count.now c.in-Some.rest.now c.in-Some.ensures.cases.0 c.if-count-least.false c.if-count-most.false c.requires.0 c.if-whole-rows-count.true;
-      typed = bytes_from c.args.bytes.now c.type-inv.bytes;
+      answer = short c.args.section (shape g.row.N c.args.least c.args.most) c.args.bytes.now c.in-Some.count.now c.in-Some.rest.now c.in-Some.ensures.cases.0 c.if-count-least.false c.if-count-most.false c.requires.0 c.if-whole_rows-count.true;
+      typed = bytes_from c.args.bytes.now c.type_inv.bytes;
     }
 
-pub split-at-requires : goal.split-at-requires
-split-at-requires g c = omega (arith, mul-le-mul_right g.row.N c.if-whole-rows-count.false, div-mul-le_self (length c.in-Some.rest.now) g.row.N)
+pub split_at-requires : goal.split_at-requires
+split_at-requires g c = omega (arith, mul-le-mul_right g.row.N c.if-whole_rows-count.false, div-mul-le_self (length c.in-Some.rest.now) g.row.N)
 
 pub returns : goal.returns
 returns g c =
     let n = c.in-Some.count.now in
     let rest = c.in-Some.rest.now in
-    let room : n * g.row.N ≤ length rest = omega (arith, mul-le-mul_right g.row.N c.if-whole-rows-count.false, div-mul-le_self (length rest) g.row.N) in
-    let count : length c.split-at.result.0.now / g.row.N ≡ n = ap (λ k. k / g.row.N) c.split-at.ensures.front-len ∙ mul-div_cancel n c.requires.0 in
-    let rows : c.as-chunks.result.0.now ≡ first_chunks g.row.N n rest =
-    c.as-chunks.ensures.front ∙ (λ i. first_chunks g.row.N (count i) (c.split-at.ensures.front i)) ∙ chunked_front g.row.N n rest in
+    let room : n * g.row.N ≤ length rest = omega (arith, mul-le-mul_right g.row.N c.if-whole_rows-count.false, div-mul-le_self (length rest) g.row.N) in
+    let count : length c.split_at.result.0.now / g.row.N ≡ n = ap (λ k. k / g.row.N) c.split_at.ensures.front_len ∙ mul-div_cancel n c.requires.0 in
+    let rows : c.as_chunks.result.0.now ≡ first_chunks g.row.N n rest =
+    c.as_chunks.ensures.front ∙ (λ i. first_chunks g.row.N (count i) (c.split_at.ensures.front i)) ∙ chunked_front g.row.N n rest in
     record {
       answer = whole c.args.section (shape g.row.N c.args.least c.args.most) c.args.bytes.now n rest c.in-Some.ensures.cases.0 c.if-count-least.false c.if-count-most.false c.requires.0 room
-          ∙ (λ i. Ok (sym rows i, sym c.split-at.ensures.back i));
-      typed = bytes_from c.args.bytes.now c.type-inv.bytes;
+          ∙ (λ i. Ok (sym rows i, sym c.split_at.ensures.back i));
+      typed = bytes_from c.args.bytes.now c.type_inv.bytes;
     }

@@ -12,8 +12,8 @@ more c =
     omega
     (arith, part_more n c.args.at c.loop-i.i 1, c.loop-i.invariant, ap (λ x. x * 2 ^ c.loop-i.i) c.bit.ensures, shl_whole c.bit.result 1 c.loop-i.i 32 (omega arith) (omega (arith, c.requires.few)))
 
-pub overflow-add-value : goal.overflow-add-value
-overflow-add-value c =
+pub overflow_add-value : goal.overflow_add-value
+overflow_add-value c =
     omega (arith, more c, part_lt (number_of c.args.bytes.now) c.args.at (c.loop-i.i + 1), pow_mono {i = c.loop-i.i + 1} {j = 32} (omega (arith, c.requires.few)))
 
 pub loop-i-preserved : goal.loop-i-preserved

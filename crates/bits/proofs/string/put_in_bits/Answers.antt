@@ -8,7 +8,7 @@ loop-i-preserved c =
     let n = number_of c.args.bytes.now in
     let v = c.args.value in
     let i = c.loop-i.i in
-    c.put-bit.ensures
+    c.put_bit.ensures
     ∙ ap (λ x. put x (c.args.at + i) 1 (part v i 1)) c.loop-i.invariant
     ∙ put_more n c.args.at i 1 (part v 0 i) (part v i 1) (part_lt v 0 i)
     ∙ ap (put n c.args.at (i + 1)) (sym (part_front v i 1))

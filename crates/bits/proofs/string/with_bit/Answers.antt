@@ -3,12 +3,12 @@ use Rattle.image.proofs.Parts.{part_le, part_lt, put_lt}
 use Rattle.bits.proofs.Cells.{shifted}
 use Rattle.bits.proofs.string.with_bit.Goals as goal
 
-pub overflow-sub-result : goal.overflow-sub-result
-overflow-sub-result c =
+pub overflow_sub-result : goal.overflow_sub-result
+overflow_sub-result c =
     omega (arith, c.requires.place, shifted (c.args.byte / 2 ^ c.args.at % 2) c.args.at (part_lt c.args.byte c.args.at 1) (omega (arith, c.requires.place)), part_le c.args.byte c.args.at 1)
 
-pub overflow-cast-result : goal.overflow-cast-result
-overflow-cast-result c =
+pub overflow_cast-result : goal.overflow_cast-result
+overflow_cast-result c =
     omega (
       arith,
       c.requires.place,

@@ -4,8 +4,8 @@ use Rattle.moves.specs.Places.{can_hold}
 use Rattle.moves.proofs.Allowed.{start_value_allowed}
 use Rattle.moves.proofs.home.reset_value.Goals as goal
 
-pub set-value-requires : goal.set-value-requires
-set-value-requires g c =
+pub set_value-requires : goal.set_value-requires
+set_value-requires g c =
     let s = g.S.View.rows c.args.store.now in
     let small : SFits w32 c.in-Some.value = search rules in
     record {

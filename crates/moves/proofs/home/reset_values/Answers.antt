@@ -7,16 +7,16 @@ use Rattle.moves.proofs.home.reset_values.Goals as goal
 pub loop-e-init : goal.loop-e-init
 loop-e-init g c =
     let s = g.S.View.rows c.args.store.now in
-    let n = c.unwrap-or-count.ensures ∙ count_is s elements c.requires.fits.accepts (omega arith) c.count.result c.count.ensures in
-    (no_values_reset s (g.S.View.state c.args.store.now) c.unwrap-or-count.result c.requires.placed n, c.requires.fits.fits)
+    let n = c.unwrap_or-count.ensures ∙ count_is s elements c.requires.fits.accepts (omega arith) c.count.result c.count.ensures in
+    (no_values_reset s (g.S.View.state c.args.store.now) c.unwrap_or-count.result c.requires.placed n, c.requires.fits.fits)
 
-pub reset-value-requires : goal.reset-value-requires
-reset-value-requires g c = still_accepted (g.S.View.rows c.args.store.now) (g.S.View.rows c.loop-e.store) (g.S.View.fits c.loop-e.store) c.loop-e.invariant.0.rows_kept c.requires.fits.accepts c.loop-e.invariant.1
+pub reset_value-requires : goal.reset_value-requires
+reset_value-requires g c = still_accepted (g.S.View.rows c.args.store.now) (g.S.View.rows c.loop-e.store) (g.S.View.fits c.loop-e.store) c.loop-e.invariant.0.rows_kept c.requires.fits.accepts c.loop-e.invariant.1
 
 pub loop-e-preserved : goal.loop-e-preserved
 loop-e-preserved g c = (
-  one_element_more (g.S.View.rows c.args.store.now) (g.S.View.state c.args.store.now) c.unwrap-or-count.result (g.S.View.rows c.loop-e.store) (g.S.View.state c.loop-e.store) c.loop-e.e (g.S.View.rows c.reset-value.new.store) (g.S.View.state c.reset-value.new.store) _ c.requires.placed c.loop-e.invariant.0 c.loop-e-test.true refl c.reset-value.ensures.rows c.reset-value.ensures.state,
-  c.reset-value.ensures.still_fits,
+  one_element_more (g.S.View.rows c.args.store.now) (g.S.View.state c.args.store.now) c.unwrap_or-count.result (g.S.View.rows c.loop-e.store) (g.S.View.state c.loop-e.store) c.loop-e.e (g.S.View.rows c.reset_value.new.store) (g.S.View.state c.reset_value.new.store) _ c.requires.placed c.loop-e.invariant.0 c.loop-e-test.true refl c.reset_value.ensures.rows c.reset_value.ensures.state,
+  c.reset_value.ensures.still_fits,
 )
 
 pub returns : goal.returns
@@ -24,5 +24,5 @@ returns g c =
     record {
       still_fits = c.loop-e.invariant.1;
       rows = c.loop-e.invariant.0.rows_kept;
-      state = all_values_reset (g.S.View.rows c.args.store.now) (g.S.View.state c.args.store.now) c.unwrap-or-count.result (g.S.View.rows c.loop-e.store) (g.S.View.state c.loop-e.store) c.loop-e.e c.loop-e.invariant.0 c.loop-e-test.false;
+      state = all_values_reset (g.S.View.rows c.args.store.now) (g.S.View.state c.args.store.now) c.unwrap_or-count.result (g.S.View.rows c.loop-e.store) (g.S.View.state c.loop-e.store) c.loop-e.e c.loop-e.invariant.0 c.loop-e-test.false;
     }

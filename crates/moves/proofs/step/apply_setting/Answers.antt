@@ -5,11 +5,11 @@ use Rattle.moves.specs.Places.{can_hold}
 use Rattle.moves.proofs.Allowed.{change_allowed}
 use Rattle.moves.proofs.step.apply_setting.Goals as goal
 
-pub set-value-requires : goal.set-value-requires
-set-value-requires g c =
+pub set_value-requires : goal.set_value-requires
+set_value-requires g c =
     let s = g.S.View.rows c.args.store.now in
     let small : SFits w32 c.in-Some.v = search rules in
-    let change = sym c.setting-change.ensures ∙ c.in-Some.is in
+    let change = sym c.setting_change.ensures ∙ c.in-Some.is in
     record {
       fits = c.requires;
       holds = subst (λ v. can_hold s c.in-Some.e v ≡ true) (sym (to_z-of_z w32 c.in-Some.v small)) (change_allowed s c.requires.accepts c.args.worths.now c.args.row (parts c.args.step) c.in-Some.e c.in-Some.v change);

@@ -9,33 +9,33 @@ use Rattle.moves.proofs.Homes.{still_accepted}
 use Rattle.moves.proofs.Refills.{settled_is}
 use Rattle.moves.proofs.step.make_step.Goals as goal
 
-pub returns-in-err-check-step : goal.returns-in-err-check-step
-returns-in-err-check-step g c =
+pub returns-in_err-check_step : goal.returns-in_err-check_step
+returns-in_err-check_step g c =
     let s = g.S.View.rows c.args.store.now in
     let w = g.S.View.state c.args.store.now in
-    let p = err_from_is_err_and c.from-residual.result c.from-residual.ensures.1 in
+    let p = err_from_is_err_and c.from_residual.result c.from_residual.ensures.1 in
     record {
       still_fits = c.requires.fits;
       rows = refl;
-      reply = p.1 ∙ ap Err p.2 ∙ c.in-err-check-step.ensures;
-      state = sym (refused_stays s w c.args.step _ c.in-err-check-step.ensures);
+      reply = p.1 ∙ ap Err p.2 ∙ c.in_err-check_step.ensures;
+      state = sym (refused_stays s w c.args.step _ c.in_err-check_step.ensures);
     }
 
-pub move-parts-requires : goal.move-parts-requires
-move-parts-requires g c = still_accepted (g.S.View.rows c.args.store.now) (g.S.View.rows c.settle.new.store) (g.S.View.fits c.settle.new.store) c.settle.ensures.rows c.requires.accepts c.settle.ensures.still_fits
+pub move_parts-requires : goal.move_parts-requires
+move_parts-requires g c = still_accepted (g.S.View.rows c.args.store.now) (g.S.View.rows c.settle.new.store) (g.S.View.fits c.settle.new.store) c.settle.ensures.rows c.requires.accepts c.settle.ensures.still_fits
 
 pub returns : goal.returns
 returns g c =
     let s = g.S.View.rows c.args.store.now in
     let w = g.S.View.state c.args.store.now in
     let x = c.args.step in
-    let reply = c.in-ok-check-step.ensures in
+    let reply = c.in_ok-check_step.ensures in
     let settled_state = c.settle.ensures.state in
-    let values = settled_is s w c.node-values-worths.result (parts x) c.node-values-worths.ensures (rows s settings) w.held in
-    let modes : g.S.View.state c.move-parts.new.store ≡ _ = c.move-parts.ensures.state ∙ (λ i. with_modes (settled_state i) (moved (c.settle.ensures.rows i) (parts x) (settled_state i).modes)) in
+    let values = settled_is s w c.node_values-worths.result (parts x) c.node_values-worths.ensures (rows s settings) w.held in
+    let modes : g.S.View.state c.move_parts.new.store ≡ _ = c.move_parts.ensures.state ∙ (λ i. with_modes (settled_state i) (moved (c.settle.ensures.rows i) (parts x) (settled_state i).modes)) in
     record {
-      still_fits = c.move-parts.ensures.still_fits;
-      rows = c.move-parts.ensures.rows ∙ c.settle.ensures.rows;
+      still_fits = c.move_parts.ensures.still_fits;
+      rows = c.move_parts.ensures.rows ∙ c.settle.ensures.rows;
       reply = reply;
       state = modes ∙ (λ i. record { modes = moved s (parts x) w.modes; held = values i }) ∙ sym (made_goes s w x reply);
     }

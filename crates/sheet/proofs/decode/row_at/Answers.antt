@@ -9,9 +9,9 @@ returns-then-i-rows g c = sym (there_past g.R.FromRow.entry c.args.rows.now c.ar
 pub returns-in-Blank : goal.returns-in-Blank
 returns-in-Blank g c =
     let read = there_read g.R.FromRow.entry c.args.rows.now c.args.i c.index-rows-i.result c.if-i-rows.false c.index-rows-i.is in
-    sym (read ∙ ap held (sym c.from-row.ensures) ∙ ⊎_elim (λ e. ap held e) (λ e. ap held e) c.in-Blank.is)
+    sym (read ∙ ap held (sym c.from_row.ensures) ∙ ⊎_elim (λ e. ap held e) (λ e. ap held e) c.in-Blank.is)
 
 pub returns-in-Holds : goal.returns-in-Holds
 returns-in-Holds g c =
     let read = there_read g.R.FromRow.entry c.args.rows.now c.args.i c.index-rows-i.result c.if-i-rows.false c.index-rows-i.is in
-    sym (read ∙ ap held (sym c.from-row.ensures ∙ c.in-Holds.is))
+    sym (read ∙ ap held (sym c.from_row.ensures ∙ c.in-Holds.is))

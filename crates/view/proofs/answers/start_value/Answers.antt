@@ -7,8 +7,8 @@ use Rattle.running.specs.States.{start_value}
 use Rattle.view.proofs.Starts.{made_at, made_nowhere}
 use Rattle.view.proofs.answers.start_value.Goals as goal
 
-pub returns-in-default : goal.returns-in-default
-returns-in-default g c = sym (made_nowhere element_entry start_value (rows (g.V.View.rows c.args.view.now) elements) c.args.e (pos 0) refl refl (sym c.in-default.ensures))
+pub returns-in_default : goal.returns-in_default
+returns-in_default g c = sym (made_nowhere element_entry start_value (rows (g.V.View.rows c.args.view.now) elements) c.args.e (pos 0) refl refl (sym c.in_default.ensures))
 
 pub returns-in-Held : goal.returns-in-Held
 returns-in-Held g c =

@@ -17,20 +17,20 @@ first_left w o v rs i k b l e h =
     at_drop_more (any_carries w o v) rs i [] l
     ∙ ap (λ (b : Bool). b || any_carries w o v (drop (i + 1) rs)) (sym (h ∙ ap (λ k. is k (carries w o v)) (e ∙ ap (read_by connection_entry) (slice_get-get_or rs i [] l))))
 
-pub returns-then-carries-event : goal.returns-then-carries-event
-returns-then-carries-event g c =
+pub returns-then-carries_event : goal.returns-then-carries_event
+returns-then-carries_event g c =
     let s = g.V.View.rows c.args.view.now in
     let n = count_is s connections c.requires.accepts (omega arith) c.count.result c.count.ensures in
-    sym (sym c.loop-i.invariant ∙ first_left (g.V.View.state c.args.view.now) c.args.out c.args.into (rows s connections) c.loop-i.i c.connection.result true (omega (arith, c.loop-i-test.true, c.unwrap-or-count.ensures, n)) c.connection.ensures c.if-carries-event.ensures)
+    sym (sym c.loop-i.invariant ∙ first_left (g.V.View.state c.args.view.now) c.args.out c.args.into (rows s connections) c.loop-i.i c.connection.result true (omega (arith, c.loop-i-test.true, c.unwrap_or-count.ensures, n)) c.connection.ensures c.if-carries_event.ensures)
 
 pub loop-i-preserved : goal.loop-i-preserved
 loop-i-preserved g c =
     let s = g.V.View.rows c.args.view.now in
     let n = count_is s connections c.requires.accepts (omega arith) c.count.result c.count.ensures in
-    sym (first_left (g.V.View.state c.args.view.now) c.args.out c.args.into (rows s connections) c.loop-i.i c.connection.result false (omega (arith, c.loop-i-test.true, c.unwrap-or-count.ensures, n)) c.connection.ensures c.if-carries-event.ensures) ∙ c.loop-i.invariant
+    sym (first_left (g.V.View.state c.args.view.now) c.args.out c.args.into (rows s connections) c.loop-i.i c.connection.result false (omega (arith, c.loop-i-test.true, c.unwrap_or-count.ensures, n)) c.connection.ensures c.if-carries_event.ensures) ∙ c.loop-i.invariant
 
 pub returns : goal.returns
 returns g c =
     let s = g.V.View.rows c.args.view.now in
     let n = count_is s connections c.requires.accepts (omega arith) c.count.result c.count.ensures in
-    sym (sym c.loop-i.invariant ∙ ap (any_carries (g.V.View.state c.args.view.now) c.args.out c.args.into) (drop_all c.loop-i.i (rows s connections) (omega (arith, c.loop-i-test.false, c.unwrap-or-count.ensures, n))))
+    sym (sym c.loop-i.invariant ∙ ap (any_carries (g.V.View.state c.args.view.now) c.args.out c.args.into) (drop_all c.loop-i.i (rows s connections) (omega (arith, c.loop-i-test.false, c.unwrap_or-count.ensures, n))))

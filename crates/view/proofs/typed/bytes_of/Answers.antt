@@ -7,10 +7,10 @@ use Rattle.view.proofs.typed.bytes_of.Goals as goal
 pub loop-place-init : goal.loop-place-init
 loop-place-init g c = record { long = length-replicate g.row.N 0; inside = omega arith; same = refl }
 
-pub returns-in-default : goal.returns-in-default
-returns-in-default g c =
+pub returns-in_default : goal.returns-in_default
+returns-in_default g c =
     let a = c.requires.fits.accepts in
-    row_missing (g.V.View.rows c.args.view.now) c.args.section c.args.row g.row.N a c.requires.wide c.loop-place.place c.loop-place-test.true c.in-default.ensures
+    row_missing (g.V.View.rows c.args.view.now) c.args.section c.args.row g.row.N a c.requires.wide c.loop-place.place c.loop-place-test.true c.in_default.ensures
 
 pub loop-place-preserved : goal.loop-place-preserved
 loop-place-preserved g c =

@@ -9,7 +9,7 @@ loop-n-preserved g c =
     let f = node_cell (g.V.View.rows c.args.view.now) (g.V.View.state c.args.view.now) c.args.values.now in
     let n = c.loop-n.n in
     let whole : n - 0 ≡ n = omega arith in
-    filled_more f c.loop-n.table 128 n c.loop-n.invariant c.node-worth-w.result c.loop-n-test.true (c.node-worth-w.ensures ∙ ap (λ k. f n (take k c.loop-n.table)) whole)
+    filled_more f c.loop-n.table 128 n c.loop-n.invariant c.node_worth-w.result c.loop-n-test.true (c.node_worth-w.ensures ∙ ap (λ k. f n (take k c.loop-n.table)) whole)
 
 pub returns : goal.returns
 returns g c =

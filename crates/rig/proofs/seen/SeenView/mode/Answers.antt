@@ -6,4 +6,4 @@ pub returns : goal.returns
 returns g c =
     let x = c.args.self.now.rig.now in
     let k = g.met.R.Rig.sound x c.requires in
-    c.unwrap-or.ensures ∙ mode_told (g.R.Rig.rows x) (g.R.Rig.means x).state k.accepts k.state_of c.args.component c.mode.result c.mode.ensures
+    c.unwrap_or.ensures ∙ mode_told (g.R.Rig.rows x) (g.R.Rig.means x).state k.accepts k.state_of c.args.component c.mode.result c.mode.ensures
