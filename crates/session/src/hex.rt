@@ -8,7 +8,7 @@ ghost use Rattle.session.specs.Sixteen.{byte_of, hex_of, hex_text, HexReadsBack}
 use std::alloc::{AllocError, Global};
 
 // The bytes that the text writes, or none where it writes no bytes.
-pub(crate) fn hex_bytes(heap: Global, text: &[u8]) -> Result<Option<Vec<u8>>, AllocError>
+pub fn hex_bytes(heap: Global, text: &[u8]) -> Result<Option<Vec<u8>>, AllocError>
     ensures { MatchResult result (λ o. option_map vec_items o ≡ hex_of text.now) (λ _. is_some (hex_of text.now) ≡ true) }
 {
     if !is_hex(text) {

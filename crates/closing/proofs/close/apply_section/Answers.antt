@@ -8,7 +8,7 @@ pub loop-row-init : goal.loop-row-init
 loop-row-init g c =
     let s = g.V.View.rows c.args.view.now in
     let all = count_is s c.args.section c.requires.fits.accepts c.requires.inside c.count.result c.count.ensures in
-    rows_none s c.args.section c.unwrap-or-count.result c.args.marks.now.table (omega (arith, all, c.unwrap-or-count.ensures))
+    rows_none s c.args.section c.unwrap_or-count.result c.args.marks.now.table (omega (arith, all, c.unwrap_or-count.ensures))
 
 pub loop-row-preserved-in-Some : goal.loop-row-preserved-in-Some
 loop-row-preserved-in-Some g c =
@@ -23,7 +23,7 @@ loop-row-preserved-in-Some g c =
 pub loop-row-preserved : goal.loop-row-preserved
 loop-row-preserved g c =
     let s = g.V.View.rows c.args.view.now in
-    rows_blank s c.args.section c.loop-row.row c.args.marks.now.table c.loop-row.marks.table c.loop-row.invariant c.loop-row-test.true (sym c.in-default.ensures)
+    rows_blank s c.args.section c.loop-row.row c.args.marks.now.table c.loop-row.marks.table c.loop-row.invariant c.loop-row-test.true (sym c.in_default.ensures)
 
 pub returns : goal.returns
 returns g c =

@@ -6,16 +6,16 @@ use Rattle.marking.proofs.KeptThings.{smallest_marks, remaining_marks}
 use Rattle.closing.proofs.close.kept_things.Goals as goal
 
 pub close-requires : goal.close-requires
-close-requires g c = record { fits = c.requires; whole = c.in-ok-mark-questions.ensures.needed.long ∙ c.none-marks.ensures.whole }
+close-requires g c = record { fits = c.requires; whole = c.in_ok-mark_questions.ensures.needed.long ∙ c.none-marks.ensures.whole }
 
 pub returns : goal.returns
 returns g c =
     let s = g.V.View.rows c.args.view.now in
     let set = c.args.set in
     let none = c.none-marks.result.table in
-    let asked = c.mark-questions.new.marks.table in
+    let asked = c.mark_questions.new.marks.table in
     let settled = c.close.new.marks.table in
-    let by_questions : Asked s set none asked = c.in-ok-mark-questions.ensures in
+    let by_questions : Asked s set none asked = c.in_ok-mark_questions.ensures in
     let long : length settled ≡ places = (c.close.ensures.needed (chosen_in set)).long ∙ by_questions.needed.long ∙ c.none-marks.ensures.whole in
     record {
       is_there = by_questions.is_there;

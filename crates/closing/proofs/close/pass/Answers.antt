@@ -7,13 +7,13 @@ use Rattle.closing.proofs.close.pass.Goals as goal
 pub loop-section-init : goal.loop-section-init
 loop-section-init g c = sections_none (g.V.View.rows c.args.view.now) c.args.marks.now.table
 
-pub apply-section-requires : goal.apply-section-requires
-apply-section-requires g c = record { fits = c.requires.fits; whole = (c.loop-section.invariant.needed (λ q. true)).long ∙ c.requires.whole; inside = omega (arith, c.loop-section-test.true) }
+pub apply_section-requires : goal.apply_section-requires
+apply_section-requires g c = record { fits = c.requires.fits; whole = (c.loop-section.invariant.needed (λ q. true)).long ∙ c.requires.whole; inside = omega (arith, c.loop-section-test.true) }
 
 pub loop-section-preserved : goal.loop-section-preserved
 loop-section-preserved g c =
     let s = g.V.View.rows c.args.view.now in
-    sections_more s c.loop-section.section c.args.marks.now.table c.loop-section.marks.table c.loop-section.invariant c.apply-section.new.marks.table c.apply-section.ensures
+    sections_more s c.loop-section.section c.args.marks.now.table c.loop-section.marks.table c.loop-section.invariant c.apply_section.new.marks.table c.apply_section.ensures
 
 pub returns : goal.returns
 returns g c =

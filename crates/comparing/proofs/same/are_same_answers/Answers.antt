@@ -10,10 +10,10 @@ use Rattle.comparing.proofs.same.are_same_answers.Goals as goal
 pub loop-q-preserved : goal.loop-q-preserved
 loop-q-preserved g c =
     let b = g.P.Rig.rows c.args.pile.now in
-    one_more (λ i. IsKeptQuestion b i → answer_of (g.W.Rig.rows c.args.whole.now) (g.W.Rig.means c.args.whole.now).state i ≡ answer_of b (g.P.Rig.means c.args.pile.now).state i) c.loop-q.q c.loop-q.invariant (c.is-same-answer.ensures.0 c.if-not-is-same-answer.false)
+    one_more (λ i. IsKeptQuestion b i → answer_of (g.W.Rig.rows c.args.whole.now) (g.W.Rig.means c.args.whole.now).state i ≡ answer_of b (g.P.Rig.means c.args.pile.now).state i) c.loop-q.q c.loop-q.invariant (c.is_same_answer.ensures.0 c.if-not-is_same_answer.false)
 
-pub returns-then-not-is-same-answer : goal.returns-then-not-is-same-answer
-returns-then-not-is-same-answer g c = ((λ h. absurd (false≢true h)), (λ h. absurd (false≢true (c.if-not-is-same-answer.ensures.1 (h c.loop-q.q)))))
+pub returns-then-not-is_same_answer : goal.returns-then-not-is_same_answer
+returns-then-not-is_same_answer g c = ((λ h. absurd (false≢true h)), (λ h. absurd (false≢true (c.if-not-is_same_answer.ensures.1 (h c.loop-q.q)))))
 
 pub returns : goal.returns
 returns g c =

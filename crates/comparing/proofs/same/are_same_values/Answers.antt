@@ -10,10 +10,10 @@ use Rattle.comparing.proofs.same.are_same_values.Goals as goal
 pub loop-e-preserved : goal.loop-e-preserved
 loop-e-preserved g c =
     let b = g.P.Rig.rows c.args.pile.now in
-    one_more (λ i. IsKeptElement b i → value_at (g.W.Rig.rows c.args.whole.now) (g.W.Rig.means c.args.whole.now).state i ≡ value_at b (g.P.Rig.means c.args.pile.now).state i) c.loop-e.e c.loop-e.invariant (c.is-same-value.ensures.0 c.if-not-is-same-value.false)
+    one_more (λ i. IsKeptElement b i → value_at (g.W.Rig.rows c.args.whole.now) (g.W.Rig.means c.args.whole.now).state i ≡ value_at b (g.P.Rig.means c.args.pile.now).state i) c.loop-e.e c.loop-e.invariant (c.is_same_value.ensures.0 c.if-not-is_same_value.false)
 
-pub returns-then-not-is-same-value : goal.returns-then-not-is-same-value
-returns-then-not-is-same-value g c = ((λ h. absurd (false≢true h)), (λ h. absurd (false≢true (c.if-not-is-same-value.ensures.1 (h c.loop-e.e)))))
+pub returns-then-not-is_same_value : goal.returns-then-not-is_same_value
+returns-then-not-is_same_value g c = ((λ h. absurd (false≢true h)), (λ h. absurd (false≢true (c.if-not-is_same_value.ensures.1 (h c.loop-e.e)))))
 
 pub returns : goal.returns
 returns g c =

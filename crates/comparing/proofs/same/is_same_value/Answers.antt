@@ -14,6 +14,6 @@ pub returns : goal.returns
 returns g c =
     let here = c.value.ensures in
     let there = c.value-2.ensures in
-    let d = c.is-told-alike.ensures in
+    let d = c.is_told_alike.ensures in
     let kept = ap is_some here ∙ told _ (element_at (g.P.Rig.rows c.args.pile.now) c.args.e) in
     ((λ r k. sym there ∙ d.0 r (kept ∙ k) ∙ here), (λ h. d.1 (λ k. there ∙ h (sym kept ∙ k) ∙ sym here)))

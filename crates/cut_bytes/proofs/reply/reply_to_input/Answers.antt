@@ -13,22 +13,22 @@ taken n xs ys e = take-append-le n xs ys (omega arith) ∙ take_all n xs (omega 
 pub returns-in-Ok : goal.returns-in-Ok
 returns-in-Ok c =
     let input = c.args.input.now in
-    let before = c.deref-mut.result.now in
-    let behind = c.cut-bytes.new.out in
-    let sized : vec_len c.in-ok-out.out ≡ length (sheet_in input) = c.in-ok-out.ensures.len ∙ ap length c.sheet-in-sheet.ensures in
-    let long : length before ≡ length (sheet_in input) = c.deref-mut.ensures.len ∙ sized in
+    let before = c.deref_mut.result.now in
+    let behind = c.cut_bytes.new.out in
+    let sized : vec_len c.in_ok-out.out ≡ length (sheet_in input) = c.in_ok-out.ensures.len ∙ ap length c.sheet_in-sheet.ensures in
+    let long : length before ≡ length (sheet_in input) = c.deref_mut.ensures.len ∙ sized in
     let cut : CutOfBytes (sheet_in input) (set_in input) before behind (Ok c.in-Ok.field-0) =
-    subst (λ (bs : List ℕ). CutOfBytes bs (set_in input) before behind (Ok c.in-Ok.field-0)) c.sheet-in-sheet.ensures (subst (λ (n : ℕ). CutOfBytes c.sheet-in-sheet.result.now n before behind (Ok c.in-Ok.field-0)) c.set_in.ensures c.in-Ok.ensures) in
+    subst (λ (bs : List ℕ). CutOfBytes bs (set_in input) before behind (Ok c.in-Ok.field-0)) c.sheet_in-sheet.ensures (subst (λ (n : ℕ). CutOfBytes c.sheet_in-sheet.result.now n before behind (Ok c.in-Ok.field-0)) c.set_in.ensures c.in-Ok.ensures) in
     let reply = cut_fills input before behind long c.in-Ok.field-0 cut in
-    subst (λ (out : List ℕ). ReplyTo input out) (sym (taken c.in-ok-out.out.len behind _ (reply.1 ∙ sym sized))) reply.0
+    subst (λ (out : List ℕ). ReplyTo input out) (sym (taken c.in_ok-out.out.len behind _ (reply.1 ∙ sym sized))) reply.0
 
 pub returns-in-Err : goal.returns-in-Err
 returns-in-Err c =
     let input = c.args.input.now in
-    let before = c.deref-mut.result.now in
-    let behind = c.cut-bytes.new.out in
+    let before = c.deref_mut.result.now in
+    let behind = c.cut_bytes.new.out in
     let fault = c.in-Err.fault in
-    let long : length before ≡ length (sheet_in input) = c.deref-mut.ensures.len ∙ c.in-ok-out.ensures.len ∙ ap length c.sheet-in-sheet.ensures in
+    let long : length before ≡ length (sheet_in input) = c.deref_mut.ensures.len ∙ c.in_ok-out.ensures.len ∙ ap length c.sheet_in-sheet.ensures in
     let cut : CutOfBytes (sheet_in input) (set_in input) before behind (Err fault) =
-    subst (λ (bs : List ℕ). CutOfBytes bs (set_in input) before behind (Err fault)) c.sheet-in-sheet.ensures (subst (λ (n : ℕ). CutOfBytes c.sheet-in-sheet.result.now n before behind (Err fault)) c.set_in.ensures c.in-Err.ensures) in
-    IfOk-weaker c.line-of-fault.result _ _ (λ v e. fault_replies input before behind long fault cut (vec_items v) e) c.line-of-fault.ensures
+    subst (λ (bs : List ℕ). CutOfBytes bs (set_in input) before behind (Err fault)) c.sheet_in-sheet.ensures (subst (λ (n : ℕ). CutOfBytes c.sheet_in-sheet.result.now n before behind (Err fault)) c.set_in.ensures c.in-Err.ensures) in
+    IfOk-weaker c.line_of_fault.result _ _ (λ v e. fault_replies input before behind long fault cut (vec_items v) e) c.line_of_fault.ensures

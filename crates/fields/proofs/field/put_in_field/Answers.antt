@@ -6,16 +6,16 @@ use Rattle.image.proofs.Proved.{total_few}
 use Rattle.reader.specs.Means.{rows_held}
 use Rattle.fields.proofs.field.put_in_field.Goals as goal
 
-pub put-in-bits-requires : goal.put-in-bits-requires
-put-in-bits-requires c =
+pub put_in_bits-requires : goal.put_in_bits-requires
+put_in_bits-requires c =
     let s = rows_held c.args.sheet.now in
     let ends = place_le (widths s) c.args.i 0 c.requires.inside in
     let all = total_few s c.args.sheet.now.accepted in
     record {
-      few = omega (arith, c.field-bits.ensures.few);
-      place = omega (arith, c.bits-before.ensures, c.field-bits.ensures.value, ends, all, c.requires.long);
+      few = omega (arith, c.field_bits.ensures.few);
+      place = omega (arith, c.bits_before.ensures, c.field_bits.ensures.value, ends, all, c.requires.long);
       short = omega (arith, c.requires.long);
-      room = subst (λ w. c.args.number < 2 ^ w) (sym c.field-bits.ensures.value) c.requires.room;
+      room = subst (λ w. c.args.number < 2 ^ w) (sym c.field_bits.ensures.value) c.requires.room;
     }
 
 pub returns : goal.returns
@@ -24,8 +24,8 @@ returns c =
     let n = number_of c.args.bytes.now in
     let i = c.args.i in
     let v = c.args.number in
-    let written = c.put-in-bits.ensures ∙ ap₂ (λ at w. put n at w v) c.bits-before.ensures c.field-bits.ensures.value in
+    let written = c.put_in_bits.ensures ∙ ap₂ (λ at w. put n at w v) c.bits_before.ensures c.field_bits.ensures.value in
     record {
       numbers = ap (numbers_in ws) written ∙ numbers_put ws n i 0 v c.requires.inside c.requires.room;
-      still-spare = subst (λ x. x < 2 ^ total ws) (sym written) (put_within ws n i 0 v c.requires.inside c.requires.room c.requires.spare);
+      still_spare = subst (λ x. x < 2 ^ total ws) (sym written) (put_within ws n i 0 v c.requires.inside c.requires.room c.requires.spare);
     }

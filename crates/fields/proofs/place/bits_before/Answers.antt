@@ -5,15 +5,15 @@ use Rattle.image.proofs.Proved.{total_few}
 use Rattle.reader.specs.Means.{rows_held}
 use Rattle.fields.proofs.place.bits_before.Goals as goal
 
-pub overflow-add-bits : goal.overflow-add-bits
-overflow-add-bits c =
+pub overflow_add-bits : goal.overflow_add-bits
+overflow_add-bits c =
     let s = rows_held c.args.sheet.now in
     let inside : c.loop-k.k < length (widths s) = omega (arith, c.loop-k-test.true, c.requires) in
-    record { fits = omega (arith, c.loop-k.invariant, c.field-bits.ensures.few, place_le (widths s) c.loop-k.k 0 inside, total_few s c.args.sheet.now.accepted) }
+    record { fits = omega (arith, c.loop-k.invariant, c.field_bits.ensures.few, place_le (widths s) c.loop-k.k 0 inside, total_few s c.args.sheet.now.accepted) }
 
 pub loop-k-preserved : goal.loop-k-preserved
 loop-k-preserved c =
     let ws = widths (rows_held c.args.sheet.now) in
     let k = c.loop-k.k in
     let inside : k < length ws = omega (arith, c.loop-k-test.true, c.requires) in
-    ap₂ (λ x y. x + y) c.loop-k.invariant c.field-bits.ensures.value ∙ sym (ap (place ws) (add-one k) ∙ place_more ws k 0 inside)
+    ap₂ (λ x y. x + y) c.loop-k.invariant c.field_bits.ensures.value ∙ sym (ap (place ws) (add-one k) ∙ place_more ws k 0 inside)

@@ -10,28 +10,28 @@ use Rattle.sheet.proofs.Shapes.{count_is}
 use Rattle.fields.proofs.place.image_length.Goals as goal
 
 -- the fields are those of all components and elements
-all : (c : goal.After-unwrap-or-elements) → c.unwrap-or-components.result + c.unwrap-or-elements.result ≡ length (widths (rows_held c.args.sheet.now))
+all : (c : goal.After-unwrap_or-elements) → c.unwrap_or-components.result + c.unwrap_or-elements.result ≡ length (widths (rows_held c.args.sheet.now))
 all c =
     let s = rows_held c.args.sheet.now in
     let a = c.args.sheet.now.accepted in
-    let m = c.unwrap-or-components.ensures ∙ count_is s components a (omega arith) c.count.result c.count.ensures in
-    let n = c.unwrap-or-elements.ensures ∙ count_is s elements a (omega arith) c.count-2.result c.count-2.ensures in
+    let m = c.unwrap_or-components.ensures ∙ count_is s components a (omega arith) c.count.result c.count.ensures in
+    let n = c.unwrap_or-elements.ensures ∙ count_is s elements a (omega arith) c.count-2.result c.count-2.ensures in
     omega (arith, m, n, length_widths s)
 
-pub bits-before-requires : goal.bits-before-requires
-bits-before-requires c = omega (arith, all c)
+pub bits_before-requires : goal.bits_before-requires
+bits_before-requires c = omega (arith, all c)
 
 -- the bits of all fields
-bits : (c : goal.After-bits-before) → c.bits-before.result ≡ total (widths (rows_held c.args.sheet.now))
+bits : (c : goal.After-bits_before) → c.bits_before.result ≡ total (widths (rows_held c.args.sheet.now))
 bits c =
     let s = rows_held c.args.sheet.now in
     let a = c.args.sheet.now.accepted in
-    let m = c.unwrap-or-components.ensures ∙ count_is s components a (omega arith) c.count.result c.count.ensures in
-    let n = c.unwrap-or-elements.ensures ∙ count_is s elements a (omega arith) c.count-2.result c.count-2.ensures in
-    c.bits-before.ensures ∙ place_all (widths s) (c.unwrap-or-components.result + c.unwrap-or-elements.result) (omega (arith, m, n, length_widths s))
+    let m = c.unwrap_or-components.ensures ∙ count_is s components a (omega arith) c.count.result c.count.ensures in
+    let n = c.unwrap_or-elements.ensures ∙ count_is s elements a (omega arith) c.count-2.result c.count-2.ensures in
+    c.bits_before.ensures ∙ place_all (widths s) (c.unwrap_or-components.result + c.unwrap_or-elements.result) (omega (arith, m, n, length_widths s))
 
-pub overflow-add-result : goal.overflow-add-result
-overflow-add-result c = record { fits = omega (arith, bits c, total_few (rows_held c.args.sheet.now) c.args.sheet.now.accepted) }
+pub overflow_add-result : goal.overflow_add-result
+overflow_add-result c = record { fits = omega (arith, bits c, total_few (rows_held c.args.sheet.now) c.args.sheet.now.accepted) }
 
 pub returns : goal.returns
 returns c =

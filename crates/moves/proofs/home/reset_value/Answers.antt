@@ -10,5 +10,5 @@ set_value-requires g c =
     let small : SFits w32 c.in-Some.value = search rules in
     record {
       fits = c.requires;
-      holds = subst (λ v. can_hold s c.args.e v ≡ true) (sym (to_z-of_z w32 c.in-Some.value small)) (start_value_allowed s c.args.e c.in-Some.value (sym c.start_value.ensures ∙ c.in-Some.is));
+      holds = subst (λ v. can_hold s c.args.e v ≡ true) (sym (to_z-of_z w32 c.in-Some.value small)) (start_value_allowed s c.args.e c.in-Some.value (sym c.rest_value.ensures ∙ c.in-Some.is));
     }

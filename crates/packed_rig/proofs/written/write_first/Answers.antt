@@ -10,4 +10,4 @@ returns c =
     let k = c.args.count in
     let small : (i : ℕ) → get_or bytes i 0 < 256 = search rules in
     let is : take (k - 0) bytes ≡ low_bytes k (number_of bytes) = ap (λ n. take n bytes) (omega arith) ∙ sym (bytes_number bytes k c.requires small) in
-    subst (λ (bs : List ℕ). Written bs c.args.out.now c.write-front.new.out c.write-front.result) is c.write-front.ensures
+    subst (λ (bs : List ℕ). Written bs c.args.out.now c.write_front.new.out c.write_front.result) is c.write_front.ensures

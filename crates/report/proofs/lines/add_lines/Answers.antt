@@ -11,8 +11,8 @@ loop-i-init g c = sym (append-nil (string_bytes c.args.text.now))
 
 pub loop-i-preserved : goal.loop-i-preserved
 loop-i-preserved g c =
-    let pushed : string_bytes c.push-str.new.self ≡ string_bytes c.loop-i.text ++ g.L.Lines.line c.args.source.now c.loop-i.i =
-    c.in-ok-push-str.ensures.bytes ∙ ap (λ l. string_bytes c.loop-i.text ++ l) (c.as-str.ensures.value ∙ c.in-ok-line.ensures) in
+    let pushed : string_bytes c.push_str.new.self ≡ string_bytes c.loop-i.text ++ g.L.Lines.line c.args.source.now c.loop-i.i =
+    c.in_ok-push_str.ensures.bytes ∙ ap (λ l. string_bytes c.loop-i.text ++ l) (c.as_str.ensures.value ∙ c.in_ok-line.ensures) in
     pushed ∙ line_more (string_bytes c.args.text.now) (string_bytes c.loop-i.text) (g.L.Lines.line c.args.source.now) c.loop-i.i c.loop-i.invariant
 
 pub returns : goal.returns

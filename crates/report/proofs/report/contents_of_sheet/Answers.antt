@@ -13,11 +13,11 @@ four a b c d t0 t1 t2 t3 e0 e1 e2 e3 =
 pub returns : goal.returns
 returns c =
     let s = rows_held c.args.sheet.now in
-    let n : c.unwrap-or.result ≡ length (rows s components) = c.unwrap-or.ensures ∙ ap (λ o. unwrap_or o 0) c.count.ensures in
-    let m : c.unwrap-or-2.result ≡ length (rows s questions) = c.unwrap-or-2.ensures ∙ ap (λ o. unwrap_or o 0) c.count-2.ensures in
+    let n : c.unwrap_or.result ≡ length (rows s components) = c.unwrap_or.ensures ∙ ap (λ o. unwrap_or o 0) c.count.ensures in
+    let m : c.unwrap_or-2.result ≡ length (rows s questions) = c.unwrap_or-2.ensures ∙ ap (λ o. unwrap_or o 0) c.count-2.ensures in
     four (codes "accepted\n") (lines 9 (count_line s)) (lines (length (rows s components)) (component_line s)) (lines (length (rows s questions)) (question_line s))
-    (string_bytes c.in-ok-text.text) (string_bytes c.add-lines.new.text) (string_bytes c.add-lines-2.new.text) (string_bytes c.add-lines-3.new.text)
-    c.in-ok-text.ensures.ok
-    c.in-ok-add-lines.ensures
-    (c.in-ok-add-lines-2.ensures ∙ ap (λ k. string_bytes c.add-lines.new.text ++ lines k (component_line s)) n)
-    (c.in-ok-add-lines-3.ensures ∙ ap (λ k. string_bytes c.add-lines-2.new.text ++ lines k (question_line s)) m)
+    (string_bytes c.in_ok-text.text) (string_bytes c.add_lines.new.text) (string_bytes c.add_lines-2.new.text) (string_bytes c.add_lines-3.new.text)
+    c.in_ok-text.ensures.ok
+    c.in_ok-add_lines.ensures
+    (c.in_ok-add_lines-2.ensures ∙ ap (λ k. string_bytes c.add_lines.new.text ++ lines k (component_line s)) n)
+    (c.in_ok-add_lines-3.ensures ∙ ap (λ k. string_bytes c.add_lines-2.new.text ++ lines k (question_line s)) m)

@@ -7,6 +7,6 @@ use Rattle.report.proofs.report.report_of_sheet.Goals as goal
 pub returns : goal.returns
 returns c =
     let s = rows_held c.args.sheet in
-    let front : string_bytes c.in-ok-text.text ≡ contents_text s = c.in-ok-text.ensures in
-    let line : c.as-str.result.now ≡ rewritten_line (length (bytes_of s)) = c.as-str.ensures.value ∙ c.in-ok-rewriting.ensures ∙ ap (λ l. rewritten_line (length l)) (sym c.requires) in
-    c.in-ok-push-str.ensures.bytes ∙ (λ i. front i ++ line i)
+    let front : string_bytes c.in_ok-text.text ≡ contents_text s = c.in_ok-text.ensures in
+    let line : c.as_str.result.now ≡ rewritten_line (length (bytes_of s)) = c.as_str.ensures.value ∙ c.in_ok-rewriting.ensures ∙ ap (λ l. rewritten_line (length l)) (sym c.requires) in
+    c.in_ok-push_str.ensures.bytes ∙ (λ i. front i ++ line i)

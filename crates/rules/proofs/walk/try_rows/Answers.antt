@@ -31,4 +31,4 @@ walked_is s =
     (one_more (rows_tries settings setting_entry (setting_checks s) (rows s settings)) _ (judged tt (first_fault (rows_tries questions question_entry (question_checks s) (rows s questions)))) refl)))))))
 
 pub returns : goal.returns
-returns c = c.try-sections.ensures ∙ sym (walked_is (rows_of c.args.sheet.now))
+returns c = c.try_sections.ensures ∙ sym (walked_is (rows_of c.args.sheet.now))

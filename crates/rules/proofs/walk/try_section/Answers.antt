@@ -30,13 +30,13 @@ module _ {X : Type 0} (s : ℕ) (entry : Row → Entry X) (checks : ℕ → X �
   unfolding tries_at section_verdict
   stops_at inv f e = sym (ap (judged tt) (each_stops tries_at i (length rs) f inv (sym read_tries ∙ judged_err tt (first_fault (entry_tries s i (checks i) (entry row))) f (sym e)) l))
 
-pub returns-in-err-try-row : goal.returns-in-err-try-row
-returns-in-err-try-row g c =
-    let p = err_from_is_err_and c.from-residual.result c.from-residual.ensures.1 in
-    rw (p.1, p.2) (stops_at c.args.section g.R.FromRow.entry (g.R.Tried.checks (rows_of c.args.sheet.now)) c.args.rows.now c.loop-i.i c.index-rows-i.result c.loop-i-test.true c.index-rows-i.is c.loop-i.invariant _ c.in-err-try-row.ensures)
+pub returns-in_err-try_row : goal.returns-in_err-try_row
+returns-in_err-try_row g c =
+    let p = err_from_is_err_and c.from_residual.result c.from_residual.ensures.1 in
+    rw (p.1, p.2) (stops_at c.args.section g.R.FromRow.entry (g.R.Tried.checks (rows_of c.args.sheet.now)) c.args.rows.now c.loop-i.i c.index-rows-i.result c.loop-i-test.true c.index-rows-i.is c.loop-i.invariant _ c.in_err-try_row.ensures)
 
 pub loop-i-preserved : goal.loop-i-preserved
-loop-i-preserved g c = passes_on c.args.section g.R.FromRow.entry (g.R.Tried.checks (rows_of c.args.sheet.now)) c.args.rows.now c.loop-i.i c.index-rows-i.result c.loop-i-test.true c.index-rows-i.is c.loop-i.invariant c.in-ok-try-row.ensures
+loop-i-preserved g c = passes_on c.args.section g.R.FromRow.entry (g.R.Tried.checks (rows_of c.args.sheet.now)) c.args.rows.now c.loop-i.i c.index-rows-i.result c.loop-i-test.true c.index-rows-i.is c.loop-i.invariant c.in_ok-try_row.ensures
 
 pub returns : goal.returns
 unfolding section_verdict

@@ -5,16 +5,16 @@ use Rattle.session.specs.Sixteen.{hex_text}
 use Rattle.session.proofs.Digits.{reads_back, written_more}
 use Rattle.session.proofs.hex.hex_text.Goals as goal
 
-pub returns-in-err-push : goal.returns-in-err-push
-returns-in-err-push c = record { text = IfOk-from_err _ _ c.from-residual.ensures.0; back = reads_back }
+pub returns-in_err-push : goal.returns-in_err-push
+returns-in_err-push c = record { text = IfOk-from_err _ _ c.from_residual.ensures.0; back = reads_back }
 
-pub returns-in-err-push-2 : goal.returns-in-err-push-2
-returns-in-err-push-2 c = record { text = IfOk-from_err _ _ c.from-residual-in-err-push-2.ensures.0; back = reads_back }
+pub returns-in_err-push-2 : goal.returns-in_err-push-2
+returns-in_err-push-2 c = record { text = IfOk-from_err _ _ c.from_residual-in_err-push-2.ensures.0; back = reads_back }
 
 pub loop-b-preserved : goal.loop-b-preserved
 loop-b-preserved c =
-    written_more c.args.bytes.now (string_bytes c.loop-b.text) (string_bytes c.push.new.self) (string_bytes c.push-in-loop-b.new.self) c.loop-b.b-index c.digit-char.result c.digit-char-in-loop-b.result (c.type-inv.bytes c.loop-b.b-index) c.loop-b-test.true
-    c.digit-char.ensures c.in-ok-push.ensures.bytes c.digit-char-in-loop-b.ensures c.in-ok-push-2.ensures.bytes c.loop-b.invariant
+    written_more c.args.bytes.now (string_bytes c.loop-b.text) (string_bytes c.push.new.self) (string_bytes c.push-in-loop-b.new.self) c.loop-b.b-index c.digit_char.result c.digit_char-in-loop-b.result (c.type_inv.bytes c.loop-b.b-index) c.loop-b-test.true
+    c.digit_char.ensures c.in_ok-push.ensures.bytes c.digit_char-in-loop-b.ensures c.in_ok-push-2.ensures.bytes c.loop-b.invariant
 
 pub returns : goal.returns
 returns c =

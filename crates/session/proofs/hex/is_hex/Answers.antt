@@ -5,4 +5,4 @@ use Rattle.session.proofs.hex.is_hex.Goals as goal
 
 pub loop-left-preserved : goal.loop-left-preserved
 loop-left-preserved c =
-    tested_more c.loop-left.left.now c.byte-of-digits.result (is_some (hex_of c.args.text.now)) (search rules) c.byte-of-digits.ensures c.if-is-none.ensures c.loop-left.invariant
+    tested_more c.loop-left.left.now c.byte_of_digits.result (is_some (hex_of c.args.text.now)) (search rules) c.byte_of_digits.ensures c.if-is_none.ensures c.loop-left.invariant

@@ -6,11 +6,11 @@ use Rattle.session.proofs.line.call_of_line.Goals as goal
 
 pub loop-left-preserved : goal.loop-left-preserved
 loop-left-preserved c = (
-  number_more c.first-word.result.0.now c.loop-left.numbers c.first-word-in-Some.result.0.now c.loop-left.count c.in-ok-number.number (words_behind c.loop-left.left) (words_behind c.first-word-in-Some.result.1) (call_of c.args.line.now)
-      (omega arith) (ap words_behind c.in-Some.is ∙ c.first-word-in-Some.ensures) c.in-ok-number.ensures c.loop-left.invariant.0,
+  number_more c.first_word.result.0.now c.loop-left.numbers c.first_word-in-Some.result.0.now c.loop-left.count c.in_ok-number.number (words_behind c.loop-left.left) (words_behind c.first_word-in-Some.result.1) (call_of c.args.line.now)
+      (omega arith) (ap words_behind c.in-Some.is ∙ c.first_word-in-Some.ensures) c.in_ok-number.ensures c.loop-left.invariant.0,
   omega arith,
-  length-set c.loop-left.numbers c.loop-left.count c.in-ok-number.number ∙ c.loop-left.invariant.2,
+  length-set c.loop-left.numbers c.loop-left.count c.in_ok-number.number ∙ c.loop-left.invariant.2,
 )
 
 pub returns : goal.returns
-returns c = c.call-by-name.ensures ∙ sym (numbers_all c.first-word.result.0.now c.loop-left.numbers c.loop-left.count (words_behind c.loop-left.left) (call_of c.args.line.now) (ap words_behind c.in-default.is) c.loop-left.invariant.0)
+returns c = c.call_by_name.ensures ∙ sym (numbers_all c.first_word.result.0.now c.loop-left.numbers c.loop-left.count (words_behind c.loop-left.left) (call_of c.args.line.now) (ap words_behind c.in_default.is) c.loop-left.invariant.0)

@@ -26,13 +26,13 @@ loop-b-preserved g c =
     let there = byte_there xs c.loop-b.place c.in-Some.b c.in-Some.ensures in
     byte_more xs c.args.out.now c.args.from c.requires.room c.loop-b.place c.loop-b.out c.loop-b.at c.loop-b.invariant c.in-Some.b c.put-at.new.out c.put-at.result there.0 there.1 c.put-at.ensures
 
-pub overflow-add-place : goal.overflow-add-place
-overflow-add-place g c =
+pub overflow_add-place : goal.overflow_add-place
+overflow_add-place g c =
     let xs = get_or (rows (g.R.Rig.rows c.args.rig.now) c.args.section) c.args.row [] in
     let there = byte_there xs c.loop-b.place c.in-Some.b c.in-Some.ensures in
-    record { fits = omega (arith, c.put-at.type-inv, c.put-at.ensures.place, c.loop-b.invariant.place, length-take-le c.loop-b.place xs (omega (arith, there.0))) }
+    record { fits = omega (arith, c.put-at.type_inv, c.put-at.ensures.place, c.loop-b.invariant.place, length-take-le c.loop-b.place xs (omega (arith, there.0))) }
 
 pub returns : goal.returns
 returns g c =
     let xs = get_or (rows (g.R.Rig.rows c.args.rig.now) c.args.section) c.args.row [] in
-    bytes_end xs c.args.out.now c.args.from c.requires.room c.loop-b.place c.loop-b.out c.loop-b.at c.loop-b.invariant (byte_missing xs c.loop-b.place c.in-default.ensures)
+    bytes_end xs c.args.out.now c.args.from c.requires.room c.loop-b.place c.loop-b.out c.loop-b.at c.loop-b.invariant (byte_missing xs c.loop-b.place c.in_default.ensures)

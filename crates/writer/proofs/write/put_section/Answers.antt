@@ -8,17 +8,17 @@ use Rattle.writer.proofs.write.put_section.Goals as goal
 pub put-at-requires : goal.put-at-requires
 put-at-requires g c = omega (arith, c.requires.room)
 
-pub overflow-cast-count : goal.overflow-cast-count
-overflow-cast-count g c = record { fits = omega (arith, few_rows (g.R.Rig.rows c.args.rig.now) c.args.section (g.met.R.Rig.sound c.args.rig.now c.requires.fits).accepts c.requires.there c.in-Some.count c.in-Some.ensures) }
+pub overflow_cast-count : goal.overflow_cast-count
+overflow_cast-count g c = record { fits = omega (arith, few_rows (g.R.Rig.rows c.args.rig.now) c.args.section (g.met.R.Rig.sound c.args.rig.now c.requires.fits).accepts c.requires.there c.in-Some.count c.in-Some.ensures) }
 
-pub returns-in-default : goal.returns-in-default
-returns-in-default g c = not_missing (g.R.Rig.rows c.args.rig.now) c.args.section (g.met.R.Rig.sound c.args.rig.now c.requires.fits).accepts c.requires.there c.in-default.ensures
+pub returns-in_default : goal.returns-in_default
+returns-in_default g c = not_missing (g.R.Rig.rows c.args.rig.now) c.args.section (g.met.R.Rig.sound c.args.rig.now c.requires.fits).accepts c.requires.there c.in_default.ensures
 
 pub loop-row-init : goal.loop-row-init
 loop-row-init g c = put_none c.put-at.new.out c.put-at.result
 
-pub put-row-at-requires : goal.put-row-at-requires
-put-row-at-requires g c =
+pub put_row-at-requires : goal.put_row-at-requires
+put_row-at-requires g c =
     let rs = rows (g.R.Rig.rows c.args.rig.now) c.args.section in
     let n = count_is (g.R.Rig.rows c.args.rig.now) c.args.section (g.met.R.Rig.sound c.args.rig.now c.requires.fits).accepts c.requires.there c.in-Some.count c.in-Some.ensures in
     let room : c.put-at.result + length (strung rs) ≤ length c.put-at.new.out = omega (arith, c.requires.room, c.put-at.ensures.place) in
@@ -29,7 +29,7 @@ loop-row-preserved g c =
     let rs = rows (g.R.Rig.rows c.args.rig.now) c.args.section in
     let n = count_is (g.R.Rig.rows c.args.rig.now) c.args.section (g.met.R.Rig.sound c.args.rig.now c.requires.fits).accepts c.requires.there c.in-Some.count c.in-Some.ensures in
     let room : c.put-at.result + length (strung rs) ≤ length c.put-at.new.out = omega (arith, c.requires.room, c.put-at.ensures.place) in
-    item_more (λ (r : Row). r) rs c.put-at.new.out c.put-at.result room c.loop-row.row c.loop-row.out c.loop-row.at c.loop-row.invariant [] (omega (arith, n, c.loop-row-test.true)) c.put-row-at.new.out c.put-row-at.result c.put-row-at.ensures
+    item_more (λ (r : Row). r) rs c.put-at.new.out c.put-at.result room c.loop-row.row c.loop-row.out c.loop-row.at c.loop-row.invariant [] (omega (arith, n, c.loop-row-test.true)) c.put_row-at.new.out c.put_row-at.result c.put_row-at.ensures
 
 pub returns : goal.returns
 returns g c =

@@ -9,13 +9,13 @@ use Rattle.writer.proofs.write.sheet_length.Goals as goal
 length_more : (s : Sheet) (i total n : ℕ) → i < length s → total ≡ length (bytes_of (take i s)) → n ≡ length (section_bytes (rows s i)) → total + n ≡ length (bytes_of (take (i + 1) s))
 length_more s i total n l e f = (λ j. e j + f j) ∙ sym (ap length (joined_take_more section_bytes s i [] l) ∙ length-append (bytes_of (take i s)) (section_bytes (rows s i)))
 
-pub overflow-add-total : goal.overflow-add-total
-overflow-add-total g c = record { fits = omega (arith, c.section-length-total.ensures.few, c.loop-section.invariant.1) }
+pub overflow_add-total : goal.overflow_add-total
+overflow_add-total g c = record { fits = omega (arith, c.section_length-total.ensures.few, c.loop-section.invariant.1) }
 
 pub loop-section-preserved : goal.loop-section-preserved
 loop-section-preserved g c = (
-  length_more (g.R.Rig.rows c.args.rig.now) c.loop-section.section c.loop-section.total c.section-length-total.result (omega (arith, c.loop-section-test.true, nine_sections (g.R.Rig.rows c.args.rig.now) (g.met.R.Rig.sound c.args.rig.now c.requires).accepts)) c.loop-section.invariant.0 c.section-length-total.ensures.value,
-  omega (arith, c.section-length-total.ensures.few, c.loop-section.invariant.1),
+  length_more (g.R.Rig.rows c.args.rig.now) c.loop-section.section c.loop-section.total c.section_length-total.result (omega (arith, c.loop-section-test.true, nine_sections (g.R.Rig.rows c.args.rig.now) (g.met.R.Rig.sound c.args.rig.now c.requires).accepts)) c.loop-section.invariant.0 c.section_length-total.ensures.value,
+  omega (arith, c.section_length-total.ensures.few, c.loop-section.invariant.1),
 )
 
 pub returns : goal.returns

@@ -8,4 +8,4 @@ pub returns-else-p-lt-PLACES : goal.returns-else-p-lt-PLACES
 returns-else-p-lt-PLACES c =
     let table = c.args.self.now.table in
     let long : length table ≡ 512 = search rules in
-    le-ltb c.place-of-p.result 512 (omega arith) ∙ sym (get_or_past table (place c.args.item) false (omega (arith, c.place-of-p.ensures)))
+    le-ltb c.place_of-p.result 512 (omega arith) ∙ sym (get_or_past table (place c.args.item) false (omega (arith, c.place_of-p.ensures)))

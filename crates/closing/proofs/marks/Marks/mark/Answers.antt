@@ -7,4 +7,4 @@ pub returns-else-p-lt-PLACES : goal.returns-else-p-lt-PLACES
 returns-else-p-lt-PLACES c =
     let table = c.args.self.now.table in
     let long : length table ≡ 512 = search rules in
-    sym (set_past table (place c.args.item) true (omega (arith, c.place-of-p.ensures)))
+    sym (set_past table (place c.args.item) true (omega (arith, c.place_of-p.ensures)))

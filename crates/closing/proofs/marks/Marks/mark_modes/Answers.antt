@@ -4,7 +4,7 @@ use Rattle.marking.specs.declared.kinds.Item.TheVariants.{Thing as ThatThing}
 use Rattle.marking.specs.Items.{with_mark}
 use Rattle.marking.proofs.Tables.{modes_listed, modes_unlisted}
 use Rattle.closing.proofs.marks.Marks.mark_modes.Goals as goal
-use Rattle.closing.proofs.marks.Marks.mark_modes.Goals.{then-lists-mode, else-lists-mode}
+use Rattle.closing.proofs.marks.Marks.mark_modes.Goals.{then-lists_mode, else-lists_mode}
 
 pub loop-m-preserved : goal.loop-m-preserved
 loop-m-preserved c =
@@ -12,7 +12,7 @@ loop-m-preserved c =
     let component = c.args.component in
     let modes = c.args.modes in
     let m = c.loop-m.m in
-    elim c.if-lists-mode.branch [
-      | then-lists-mode w ↦ ap (λ x. x.table) w.self-is ∙ w.mark.ensures ∙ ap (λ t. with_mark t (ThatThing (Mode component m))) c.loop-m.invariant ∙ modes_listed table component modes m (sym w.if-lists-mode.ensures)
-      | else-lists-mode w ↦ ap (λ x. x.table) w.self-is ∙ c.loop-m.invariant ∙ modes_unlisted table component modes m (sym w.if-lists-mode.ensures)
+    elim c.if-lists_mode.branch [
+      | then-lists_mode w ↦ ap (λ x. x.table) w.self-is ∙ w.mark.ensures ∙ ap (λ t. with_mark t (ThatThing (Mode component m))) c.loop-m.invariant ∙ modes_listed table component modes m (sym w.if-lists_mode.ensures)
+      | else-lists_mode w ↦ ap (λ x. x.table) w.self-is ∙ c.loop-m.invariant ∙ modes_unlisted table component modes m (sym w.if-lists_mode.ensures)
     ]

@@ -6,15 +6,15 @@ use Rattle.cut_rig.specs.Tables.{kept_in, chosen_by}
 use Rattle.cut_rig.proofs.Shows.{component_few}
 use Rattle.cut_rig.proofs.cut.CutRig.mode.Goals as goal
 
-pub returns-in-default : goal.returns-in-default
-returns-in-default g c =
+pub returns-in_default : goal.returns-in_default
+returns-in_default g c =
     let x = c.args.self.now in
     let k = kept_in x.tables in
     let accepts = (g.met.R.Rig.sound x.below c.requires.below_fits).accepts in
-    ap (option_map (shown_mode k c.args.component)) c.in-default.ensures ∙ sym (mode_shown (g.R.Rig.rows x.below) accepts k (chosen_by x.tables) (g.R.Rig.means x.below).state c.args.component)
+    ap (option_map (shown_mode k c.args.component)) c.in_default.ensures ∙ sym (mode_shown (g.R.Rig.rows x.below) accepts k (chosen_by x.tables) (g.R.Rig.means x.below).state c.args.component)
 
-pub overflow-cast-component : goal.overflow-cast-component
-overflow-cast-component g c =
+pub overflow_cast-component : goal.overflow_cast-component
+overflow_cast-component g c =
     let x = c.args.self.now in
     let accepts = (g.met.R.Rig.sound x.below c.requires.below_fits).accepts in
     record { fits = component_few (g.R.Rig.rows x.below) accepts (g.R.Rig.means x.below).state c.args.component c.in-Some.mode c.in-Some.ensures }

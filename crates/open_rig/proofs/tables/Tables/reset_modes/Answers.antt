@@ -19,12 +19,12 @@ pub loop-c-preserved : goal.loop-c-preserved
 loop-c-preserved c =
     let s = rows_in c.args.self.now in
     let inv = c.loop-c.invariant in
-    let x = c.start-mode-mode.result in
-    let e : x ≡ mode_of (start_state s) c.loop-c.c = c.start-mode-mode.ensures ∙ ap (λ r. mode_of (start_state r) c.loop-c.c) inv.2 in (
-      refilled_as (modes_in c.set-mode.new.self) _ (start_state s).modes 0 c.len-count.result _ c.set-mode.ensures.modes
+    let x = c.start_mode-mode.result in
+    let e : x ≡ mode_of (start_state s) c.loop-c.c = c.start_mode-mode.ensures ∙ ap (λ r. mode_of (start_state r) c.loop-c.c) inv.2 in (
+      refilled_as (modes_in c.set_mode.new.self) _ (start_state s).modes 0 c.len-count.result _ c.set_mode.ensures.modes
           (refilled_more (modes_in c.loop-c.self) (start_state s).modes 0 c.len-count.result c.loop-c.c inv.0 x c.loop-c-test.true e),
-      c.set-mode.ensures.values ∙ inv.1,
-      c.set-mode.ensures.rows ∙ inv.2,
+      c.set_mode.ensures.values ∙ inv.1,
+      c.set_mode.ensures.rows ∙ inv.2,
     )
 
 pub returns : goal.returns

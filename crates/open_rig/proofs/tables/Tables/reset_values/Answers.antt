@@ -20,12 +20,12 @@ pub loop-e-preserved : goal.loop-e-preserved
 loop-e-preserved c =
     let s = rows_in c.args.self.now in
     let inv = c.loop-e.invariant in
-    let x = to_z w32 (of_z w32 c.start-value-value.result) in
-    let e : x ≡ held_of (start_state s) c.loop-e.e = to_z-of_z w32 c.start-value-value.result (record { sfits = c.start-value-value.type-inv }) ∙ c.start-value-value.ensures ∙ ap (λ r. held_of (start_state r) c.loop-e.e) inv.2 in (
-      refilled_as (values_in c.set-value.new.self) _ (start_state s).held (pos 0) c.len-count.result _ c.set-value.ensures.values
+    let x = to_z w32 (of_z w32 c.start_value-value.result) in
+    let e : x ≡ held_of (start_state s) c.loop-e.e = to_z-of_z w32 c.start_value-value.result (record { sfits = c.start_value-value.type_inv }) ∙ c.start_value-value.ensures ∙ ap (λ r. held_of (start_state r) c.loop-e.e) inv.2 in (
+      refilled_as (values_in c.set_value.new.self) _ (start_state s).held (pos 0) c.len-count.result _ c.set_value.ensures.values
           (refilled_more (values_in c.loop-e.self) (start_state s).held (pos 0) c.len-count.result c.loop-e.e inv.0 x c.loop-e-test.true e),
-      c.set-value.ensures.modes ∙ inv.1,
-      c.set-value.ensures.rows ∙ inv.2,
+      c.set_value.ensures.modes ∙ inv.1,
+      c.set_value.ensures.rows ∙ inv.2,
     )
 
 pub returns : goal.returns

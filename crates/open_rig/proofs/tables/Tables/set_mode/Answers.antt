@@ -14,10 +14,10 @@ returns-in-Some c =
       rows = refl;
     }
 
-pub returns-in-default : goal.returns-in-default
-returns-in-default c =
+pub returns-in_default : goal.returns-in_default
+returns-in_default c =
     let v = c.args.self.now.components in
-    let past : false ≡ ltb c.args.component (vec_len v) = (ltb_from_iff c.in-default.ensures.variant) in
+    let past : false ≡ ltb c.args.component (vec_len v) = (ltb_from_iff c.in_default.ensures.variant) in
     record {
       modes = field_unset (λ (r : ComponentRecord). r.mode) (vec_items v) (vec_len v) v.ok.0 c.args.component c.args.mode (ltb-false c.args.component (vec_len v) (sym past));
       values = refl;

@@ -15,10 +15,10 @@ returns-in-Some c =
       rows = refl;
     }
 
-pub returns-in-default : goal.returns-in-default
-returns-in-default c =
+pub returns-in_default : goal.returns-in_default
+returns-in_default c =
     let v = c.args.self.now.elements in
-    let past : false ≡ ltb c.args.element (vec_len v) = (ltb_from_iff c.in-default.ensures.variant) in
+    let past : false ≡ ltb c.args.element (vec_len v) = (ltb_from_iff c.in_default.ensures.variant) in
     record {
       modes = refl;
       values = field_unset (λ (r : ElementRecord). r.value) (vec_items v) (vec_len v) v.ok.0 c.args.element c.args.value (ltb-false c.args.element (vec_len v) (sym past));

@@ -18,11 +18,11 @@ loop-i-preserved c =
     let vs = values_in c.loop-i.self in
     let inv = c.loop-i.invariant in
     let n = count_is s settings c.args.self.now.sheet.accepted (omega arith) c.count.result c.count.ensures in
-    let inside : i < length (rows s settings) = omega (arith, c.loop-i-test.true, c.unwrap-or-count.ensures, n) in
-    let after : values_in c.apply-setting.new.self ≡ changed (change_by s t ts (setting_at s i)) vs = c.apply-setting.ensures.values ∙ ap (λ r. changed (change_by r t ts (setting_at r i)) vs) inv.2 in (
+    let inside : i < length (rows s settings) = omega (arith, c.loop-i-test.true, c.unwrap_or-count.ensures, n) in
+    let after : values_in c.apply_setting.new.self ≡ changed (change_by s t ts (setting_at s i)) vs = c.apply_setting.ensures.values ∙ ap (λ r. changed (change_by r t ts (setting_at r i)) vs) inv.2 in (
       ap (settled_by s t ts (drop (i + 1) (rows s settings))) after ∙ settled_more s t ts (rows s settings) i vs (change_by s t ts (setting_at s i)) inside refl ∙ inv.0,
-      c.apply-setting.ensures.modes ∙ inv.1,
-      c.apply-setting.ensures.rows ∙ inv.2,
+      c.apply_setting.ensures.modes ∙ inv.1,
+      c.apply_setting.ensures.rows ∙ inv.2,
     )
 
 pub returns : goal.returns
@@ -32,6 +32,6 @@ returns c =
     let n = count_is s settings c.args.self.now.sheet.accepted (omega arith) c.count.result c.count.ensures in
     record {
       modes = inv.1;
-      values = sym (settled_end s c.args.worths.now (parts c.args.step) (rows s settings) c.loop-i.i (values_in c.loop-i.self) (omega (arith, c.loop-i-test.false, c.unwrap-or-count.ensures, n))) ∙ inv.0;
+      values = sym (settled_end s c.args.worths.now (parts c.args.step) (rows s settings) c.loop-i.i (values_in c.loop-i.self) (omega (arith, c.loop-i-test.false, c.unwrap_or-count.ensures, n))) ∙ inv.0;
       rows = inv.2;
     }

@@ -6,18 +6,18 @@ use Rattle.writer.specs.Written.{Written}
 use Rattle.packed_rig.specs.Tables.{rows_in}
 use Rattle.packed_rig.proofs.packed.PackedRig.image.Goals as goal
 
-pub write-first-requires : goal.write-first-requires
-write-first-requires c =
+pub write_first-requires : goal.write_first-requires
+write_first-requires c =
     let long : length c.args.self.now.tables.state.bytes ≡ 136 = search rules in
-    omega (arith, long, c.image-length-length.ensures.few)
+    omega (arith, long, c.image_length-length.ensures.few)
 
 pub returns : goal.returns
 returns c =
     let x = c.args.self.now.tables in
     let n = number_of x.state.bytes in
-    let is = ap (λ k. low_bytes k n) c.image-length-length.ensures.value ∙ sym (image_of_string (rows_in x) n c.requires.spare) in
+    let is = ap (λ k. low_bytes k n) c.image_length-length.ensures.value ∙ sym (image_of_string (rows_in x) n c.requires.spare) in
     record {
-      written = subst (λ (bs : List ℕ). Written bs c.args.out.now c.write-first.new.out c.write-first.result) is c.write-first.ensures;
+      written = subst (λ (bs : List ℕ). Written bs c.args.out.now c.write_first.new.out c.write_first.result) is c.write_first.ensures;
       images_read_back = images_read_back;
       images_tell_states = images_tell_states;
       lengths_by_sheets = lengths_by_sheets;

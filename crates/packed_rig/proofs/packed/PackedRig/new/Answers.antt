@@ -13,8 +13,8 @@ use Rattle.packed_rig.specs.Tables.{rows_in, state_in}
 use Rattle.packed_rig.proofs.Places.{numbers_long}
 use Rattle.packed_rig.proofs.packed.PackedRig.new.Goals as goal
 
-pub go-home-requires : goal.go-home-requires
-go-home-requires c =
+pub go_home-requires : goal.go_home-requires
+go_home-requires c =
     let s = rows_held c.args.sheet in
     let n = number_of (replicate 136 0) in
     let p = placed_from s (numbers_in (widths s) n) (numbers_long s n) in
@@ -26,8 +26,8 @@ go-home-requires c =
 pub returns : goal.returns
 returns c =
     let s = rows_held c.args.sheet in
-    let y = c.go-home.new.store in
-    let home = c.go-home.ensures in
+    let y = c.go_home.new.store in
+    let home = c.go_home.ensures in
     record {
       fits = record { spare = home.still_fits; state_of = state_as s (rows_in y) (start_state s) (state_in y) home.rows home.state (start_state_of s) };
       rows = home.rows;

@@ -4,8 +4,8 @@ use Rattle.running.specs.States.{start_state}
 use Rattle.packed_rig.specs.Tables.{rows_in, state_in}
 use Rattle.packed_rig.proofs.packed.PackedRigRig.home.Goals as goal
 
-pub go-home-requires : goal.go-home-requires
-go-home-requires c =
+pub go_home-requires : goal.go_home-requires
+go_home-requires c =
     let o = c.requires.state_of in
     record {
       fits = record { fits = c.requires.spare; accepts = c.args.self.now.tables.sheet.accepted };
@@ -15,8 +15,8 @@ go-home-requires c =
 pub returns : goal.returns
 returns c =
     let s = rows_in c.args.self.now.tables in
-    let y = c.go-home.new.store in
-    let home = c.go-home.ensures in
+    let y = c.go_home.new.store in
+    let home = c.go_home.ensures in
     record {
       still_fits = record { spare = home.still_fits; state_of = state_as s (rows_in y) (start_state s) (state_in y) home.rows home.state (start_state_of s) };
       moves = record { rows_kept = home.rows; moved = λ i. record { state = home.state i } };

@@ -6,8 +6,8 @@ use Rattle.packed_rig.specs.Tables.{rows_in}
 use Rattle.packed_rig.proofs.Places.{mode_place, field_of_mode, numbers_long}
 use Rattle.packed_rig.proofs.store.TablesStore.set_mode.Goals as goal
 
-pub put-in-field-requires : goal.put-in-field-requires
-put-in-field-requires c =
+pub put_in_field-requires : goal.put_in_field-requires
+put_in_field-requires c =
     let s = rows_in c.args.self.now in
     let p = mode_place s c.args.component c.args.mode c.requires.has in
     record {
@@ -24,7 +24,7 @@ returns c =
     let n = number_of x.state.bytes in
     let p = mode_place s c.args.component c.args.mode c.requires.has in
     record {
-      still_fits = c.put-in-field.ensures.still-spare;
+      still_fits = c.put_in_field.ensures.still_spare;
       rows = refl;
-      state = ap (state_from s) (c.put-in-field.ensures.numbers ∙ ap (set (numbers_in (widths s) n) c.args.component) c.from.ensures) ∙ mode_set s (numbers_in (widths s) n) (numbers_long s n) c.args.component c.args.mode p.inside;
+      state = ap (state_from s) (c.put_in_field.ensures.numbers ∙ ap (set (numbers_in (widths s) n) c.args.component) c.from.ensures) ∙ mode_set s (numbers_in (widths s) n) (numbers_long s n) c.args.component c.args.mode p.inside;
     }

@@ -13,11 +13,11 @@ use Rattle.packed_rig.specs.Tables.{rows_in}
 use Rattle.packed_rig.proofs.Places.{field_of_value, value_place, numbers_long, below_most}
 use Rattle.packed_rig.proofs.store.TablesStore.set_value.Goals as goal
 
-pub overflow-add-components : goal.overflow-add-components
-overflow-add-components c =
+pub overflow_add-components : goal.overflow_add-components
+overflow_add-components c =
     let s = rows_in c.args.self.now in
     let a = c.args.self.now.sheet.accepted in
-    let n = c.unwrap-or-components.ensures ∙ count_is s components a (omega arith) c.count.result c.count.ensures in
+    let n = c.unwrap_or-components.ensures ∙ count_is s components a (omega arith) c.count.result c.count.ensures in
     let p = value_place s c.args.element c.in-Some.x (sym c.in-Some.ensures) c.args.value c.requires.holds in
     record { fits = omega (arith, n, p.inside, (sized s components a (omega arith)).few, (sized s elements a (omega arith)).few) }
 
@@ -33,13 +33,13 @@ above-requires c =
     let q = and_parts (le_z x.lowest v) (le_z v x.highest) within in
     rw (to_z-of_z w32 x.lowest low, to_z-of_z w32 v c.ranges.value) (record { ordered = q.0; least = g.least; most = below_most v x.highest q.1 g.most })
 
-pub put-in-field-requires : goal.put-in-field-requires
-put-in-field-requires c =
+pub put_in_field-requires : goal.put_in_field-requires
+put_in_field-requires c =
     let s = rows_in c.args.self.now in
     let e = c.args.element in
     let x = c.in-Some.x in
     let here = sym c.in-Some.ensures in
-    let n = c.unwrap-or-components.ensures ∙ count_is s components c.args.self.now.sheet.accepted (omega arith) c.count.result c.count.ensures in
+    let n = c.unwrap_or-components.ensures ∙ count_is s components c.args.self.now.sheet.accepted (omega arith) c.count.result c.count.ensures in
     let low : SFits w32 c.in-Some.x.lowest = search rules in
     let number : c.above.result ≡ above c.in-Some.x.lowest c.args.value = c.above.ensures ∙ ap₂ above (to_z-of_z w32 c.in-Some.x.lowest low) (to_z-of_z w32 c.args.value c.ranges.value) in
     let p = value_place s e x here c.args.value c.requires.holds in
@@ -58,13 +58,13 @@ returns c =
     let v = c.args.value in
     let k = number_of x.state.bytes in
     let ns = numbers_in (widths s) k in
-    let n = c.unwrap-or-components.ensures ∙ count_is s components x.sheet.accepted (omega arith) c.count.result c.count.ensures in
+    let n = c.unwrap_or-components.ensures ∙ count_is s components x.sheet.accepted (omega arith) c.count.result c.count.ensures in
     let p = value_place s e c.in-Some.x (sym c.in-Some.ensures) v c.requires.holds in
     let low : SFits w32 c.in-Some.x.lowest = search rules in
     let number : c.above.result ≡ above c.in-Some.x.lowest c.args.value = c.above.ensures ∙ ap₂ above (to_z-of_z w32 c.in-Some.x.lowest low) (to_z-of_z w32 c.args.value c.ranges.value) in
-    let numbers = c.put-in-field.ensures.numbers ∙ ap₂ (λ m y. set ns (m + e) y) n number in
+    let numbers = c.put_in_field.ensures.numbers ∙ ap₂ (λ m y. set ns (m + e) y) n number in
     record {
-      still_fits = c.put-in-field.ensures.still-spare;
+      still_fits = c.put_in_field.ensures.still_spare;
       rows = refl;
       state = ap (state_from s) numbers ∙ value_set s ns (numbers_long s k) e (above c.in-Some.x.lowest v) v p.inside p.back;
     }
