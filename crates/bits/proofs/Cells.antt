@@ -1,8 +1,8 @@
 -- One bit of a byte of a string.
-use Rattle.std.proofs.Common.{◌≡◌, ℕ, zero, suc, ◌+◌, ◌-◌, ◌*◌, ◌/◌, ◌%◌, ◌^◌, ◌<◌, ◌≤◌, List, length, get_or, set, sym, refl, ap, ◌∙◌, subst, ap₂, mod-lt, mod-eq_of_lt, arith}
+use Rattle.std.proofs.Common.{◌≡◌, ℕ, ◌+◌, ◌*◌, ◌/◌, ◌%◌, ◌^◌, ◌<◌, List, length, get_or, set, sym, ap, ◌∙◌, mod-eq_of_lt, arith}
 use Rattle.std.proofs.lemmas.Nat.{shl_whole}
 use Rattle.image.specs.Bits.{number_of, part, put}
-use Rattle.image.proofs.Parts.{part_in, put_in, part_le, part_lt, put_lt}
+use Rattle.image.proofs.Parts.{part_in, put_in, put_lt}
 use Rattle.image.proofs.Bytes.{byte_part, number_set}
 
 place : (at : ℕ) → 8 * (at / 8) + at % 8 ≡ at

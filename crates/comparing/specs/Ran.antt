@@ -1,7 +1,6 @@
 -- What a call and a list of calls leave of a rig.
-use Rattle.std.specs.Prelude.{◌≡◌, true, List}
+use Rattle.std.specs.Prelude.{◌≡◌, List}
 use Rattle.rig.specs.Meaning.{Meaning, with_state}
-use Rattle.running.specs.States.{State}
 use Rattle.sheet.specs.Sections.{Sheet}
 use Rattle.cutting.specs.declared.kinds.RunCall.{RunCall}
 use Rattle.cutting.specs.Agreement.{after_call, after_run}

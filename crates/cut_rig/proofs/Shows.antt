@@ -1,5 +1,5 @@
 -- What the tables of a cut say of the rows and the state below.
-use Rattle.std.proofs.Common.{◌≡◌, ℕ, ◌+◌, ◌*◌, ◌<◌, ◌≤◌, Bool, true, false, cond, ◌&&◌, ltb, List, [], ◌∷◌, length, get_or, ℤ, pos, is_some, Some, None, Ok, Err, Option, Result, unwrap_or, sym, refl, ap, ◌∙◌, ⊎_elim, arith}
+use Rattle.std.proofs.Common.{◌≡◌, ℕ, ◌+◌, ◌*◌, ◌<◌, ◌≤◌, Bool, true, false, cond, ◌&&◌, ltb, List, [], ◌∷◌, get_or, pos, is_some, Some, None, Ok, Err, Option, Result, unwrap_or, sym, refl, ap, ◌∙◌, ⊎_elim, arith}
 use Rattle.std.proofs.lemmas.Bool.{false≢true, cases_lt, ne_eqb, lt-ltb, le-ltb}
 use Rattle.std.proofs.lemmas.List.{get_or_past}
 use Rattle.std.specs.Option.{option_map}
@@ -17,17 +17,16 @@ use Rattle.sheet.proofs.Firsts.{no_pass, first_fails}
 use Rattle.sheet.proofs.Lookups.{there_past}
 use Rattle.sheet.proofs.Shapes.{nine_sections, sized}
 use Rattle.running.specs.declared.kinds.Step.{Step}
-use Rattle.running.specs.declared.kinds.Step.TheVariants.{Alone, Pair}
 use Rattle.running.specs.declared.kinds.StepRefusal.{StepRefusal}
 use Rattle.running.specs.declared.kinds.StepRefusal.TheVariants.{NoTransition}
 use Rattle.running.specs.States.{State, mode_of}
-use Rattle.running.specs.Steps.{parts, is_there, each_part, replied, step_fault, step_reply, mode_at, value_at}
+use Rattle.running.specs.Steps.{parts, is_there, each_part, replied, step_reply, mode_at, value_at}
 use Rattle.running.specs.Values.{values}
 use Rattle.cutting.specs.declared.kinds.Thing.TheVariants.{Element as KeptElement}
-use Rattle.cutting.specs.Agreement.{KeptStep, IsKeptTransition, Every}
+use Rattle.cutting.specs.Agreement.{IsKeptTransition, Every}
 use Rattle.cutting.specs.CutCells.{row_stays, blank_byte, component_byte, staying_byte, cut_byte}
 use Rattle.cutting.specs.CutSheet.{cut_sheet, shown}
-use Rattle.cutting.specs.Kept.{Kept, Chosen, keeps_from, Closed}
+use Rattle.cutting.specs.Kept.{keeps_from, Closed}
 use Rattle.cutting.proofs.CutBytes.{byte_cut}
 use Rattle.cutting.proofs.CutRows.{passing, with_to, transition_cut}
 use Rattle.cutting.proofs.ElementsAgree.{value_shown}

@@ -1,5 +1,5 @@
 -- What the tables of a cut mean.
-use Rattle.std.specs.Prelude.{◌≡◌, ℕ, ◌+◌, ◌*◌, ◌<◌, Bool, true, false, cond, ◌&&◌, List, nat_lt, slice_index_or}
+use Rattle.std.specs.Prelude.{◌≡◌, ℕ, ◌+◌, ◌*◌, ◌<◌, Bool, false, cond, ◌&&◌, nat_lt, slice_index_or}
 use Rattle.closing.specs.Marks.{kept_of, KeepsFor}
 use Rattle.cutting.specs.CutCells.{row_stays}
 use Rattle.cutting.specs.Kept.{Kept, Chosen, chosen_in}

@@ -1,7 +1,6 @@
 -- A cut sheet has as many bytes as the whole sheet.
-use Rattle.std.proofs.Common.{◌≡◌, ℕ, zero, suc, ◌+◌, ◌*◌, ◌<◌, true, List, [], ◌∷◌, length, get_or, Some, Option, sym, refl, ap, ◌∙◌, arith, length-append}
+use Rattle.std.proofs.Common.{◌≡◌, ℕ, suc, ◌+◌, ◌*◌, ◌<◌, true, [], ◌∷◌, length, Some, Option, sym, refl, ap, ◌∙◌, arith, length-append}
 use Rattle.sheet.specs.Accept.{accepted}
-use Rattle.sheet.specs.Cells.{count_of}
 use Rattle.sheet.specs.Sections.{Sheet, rows, width_of, section_bytes, bytes_of}
 use Rattle.sheet.proofs.Shapes.{nine_sections, sized}
 use Rattle.cutting.specs.CutSheet.{cut_sheet}

@@ -97,7 +97,7 @@ module _ (k : Kept) (chosen : Chosen) (s : Sheet) where
         passes_at (rests_by s n entry node) rs i (get_or rs i []) (slice_get-get_or rs i [] p.0) (is_from (held (entry (get_or rs i []))) (λ x. rests s (ThatNode n) (node x)) x p.1 h)
 
   module _ (n : ℕ) where
-    -- the four tests of `is-used`
+    -- the four tests of `is_used`
     abbrev pub by_flow : Bool
     by_flow = some_passes (rests_by s n flow_entry (λ x. x.node)) (numbered (cut_flow k) (rows s flows))
 

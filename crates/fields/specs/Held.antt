@@ -2,7 +2,7 @@
 use Rattle.std.specs.Prelude.{ℕ, Some, None, Option}
 use Rattle.sheet.specs.declared.rows.Component.{Component}
 use Rattle.sheet.specs.declared.rows.Element.{Element}
-use Rattle.sheet.specs.declared.rows.Entry.TheVariants.{Blank, Holds}
+use Rattle.sheet.specs.declared.rows.Entry.TheVariants.{Holds}
 use Rattle.image.specs.Fields.{mode_bits, value_bits}
 
 abbrev pub bits_of_mode : Option Component → ℕ

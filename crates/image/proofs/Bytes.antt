@@ -1,6 +1,6 @@
 -- Bytes and the number that they write.
-use Rattle.std.proofs.Common.{◌≡◌, ℕ, zero, suc, ◌+◌, ◌-◌, ◌*◌, ◌/◌, ◌%◌, ◌^◌, ◌<◌, ◌≤◌, List, [], ◌∷◌, ◌++◌, length, get_or, take, set, replicate, sym, refl, ap, ◌∙◌, subst, ap₂, suc-le-suc, mod-lt, mod-eq_of_lt, add_comm, mul-suc, mul-add, div-one, add-one, arith}
-use native.Mathlib.Nat.{zero-div, div-div-eq-div-mul}
+use Rattle.std.proofs.Common.{◌≡◌, ℕ, zero, suc, ◌+◌, ◌*◌, ◌/◌, ◌%◌, ◌^◌, ◌<◌, ◌≤◌, List, [], ◌∷◌, length, get_or, take, set, replicate, sym, refl, ap, ◌∙◌, ap₂, suc-le-suc, mod-lt, mod-eq_of_lt, add_comm, mul-suc, div-one, arith}
+use native.Mathlib.Nat.{zero-div}
 use Rattle.std.proofs.lemmas.Nat.{pow_pos, pow-add, shr-shr, div_below}
 use Rattle.image.specs.Bits.{number_of, low_bytes, part, put}
 use Rattle.image.proofs.Parts.{low, high, put_is}

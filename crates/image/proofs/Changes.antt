@@ -1,5 +1,5 @@
 -- A field read, or set: the mode or the value that it stands for.
-use Rattle.std.proofs.Common.{◌≡◌, ℕ, zero, suc, ◌+◌, ◌-◌, ◌*◌, ◌^◌, ◌<◌, ◌≤◌, Bool, true, false, cond, not, List, [], ◌∷◌, ◌++◌, map, length, get_or, take, drop, set, ℤ, pos, ◌+ℤ◌, sym, refl, ap, ◌∙◌, ap₂, ⊎_elim, suc-le-suc, arith}
+use Rattle.std.proofs.Common.{◌≡◌, ℕ, zero, suc, ◌+◌, ◌-◌, ◌<◌, ◌≤◌, Bool, true, false, cond, not, List, [], ◌∷◌, map, length, get_or, take, drop, set, ℤ, pos, ◌+ℤ◌, sym, refl, ap, ◌∙◌, ap₂, ⊎_elim, suc-le-suc, arith}
 use lib.Lanes.{zip2}
 use Rattle.std.proofs.lemmas.List.{length-map, length-take-le, length-drop, get_or-map, get_or_append_left, get_or-append_right, get_or-take, get_or-drop, get_or_past, drop-set-lt, drop-set-add, take-set-le}
 use Rattle.std.proofs.lemmas.Simd.{get_or-zip2}

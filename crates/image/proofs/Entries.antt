@@ -1,5 +1,5 @@
 -- What the rows of components and elements say of their bits.
-use Rattle.std.proofs.Common.{◌≡◌, ℕ, suc, ◌+◌, ◌-◌, ◌*◌, ◌^◌, ◌<◌, ◌≤◌, Bool, true, false, cond, not, ◌&&◌, eqb, ltb, leb, List, [], ◌∷◌, get_or, ℤ, pos, negsuc, ◌+ℤ◌, ◌-ℤ◌, nat_abs, Some, None, Option, sym, refl, ap, ◌∙◌, subst, ⊎_elim, arith, w16, to_z}
+use Rattle.std.proofs.Common.{◌≡◌, ℕ, suc, ◌+◌, ◌-◌, ◌*◌, ◌^◌, ◌<◌, ◌≤◌, Bool, true, false, cond, not, ◌&&◌, eqb, ltb, leb, [], get_or, ℤ, pos, negsuc, ◌+ℤ◌, Some, sym, refl, ap, subst, ⊎_elim, arith}
 use lib.Signed.{le_z}
 use mir.Val.{sel}
 use Rattle.std.proofs.lemmas.Int.{ints}
@@ -13,7 +13,7 @@ use Rattle.sheet.specs.declared.rows.Kind.TheVariants.{Held, Port}
 use Rattle.sheet.specs.Lookup.{held, element_at, is}
 use Rattle.sheet.specs.Rules.{is_port}
 use Rattle.sheet.specs.Sections.{Row, Sheet, rows, elements}
-use Rattle.sheet.specs.Typed.{at, number, zeros, holds_if, blank_or, component_entry, element_of, element_by_kind, element_entry}
+use Rattle.sheet.specs.Typed.{at, number, zeros, component_entry, element_of, element_by_kind, element_entry}
 use Rattle.sheet.proofs.Firsts.{no_pass}
 use Rattle.sheet.proofs.Meaning.{there_inside}
 use Rattle.running.specs.States.{in_range}

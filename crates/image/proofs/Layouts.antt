@@ -1,12 +1,11 @@
 -- Numbers side by side.
-use Rattle.std.proofs.Common.{◌≡◌, ℕ, zero, suc, ◌+◌, ◌-◌, ◌*◌, ◌/◌, ◌%◌, ◌^◌, ◌<◌, ◌≤◌, List, [], ◌∷◌, ◌++◌, length, get_or, take, set, sym, refl, ap, ◌∙◌, subst, ap₂, suc-le-suc, mod-lt, mod-eq_of_lt, mul-le-mul_left, zero-add, div-one, arith, pow_mono}
-use native.Mathlib.Nat.{mod-mod}
-use Rattle.std.proofs.lemmas.Nat.{pow_pos, pow-add, shr-shr, shr_split, shr_below, div_below}
+use Rattle.std.proofs.Common.{◌≡◌, ℕ, zero, suc, ◌+◌, ◌*◌, ◌/◌, ◌%◌, ◌^◌, ◌<◌, ◌≤◌, List, [], ◌∷◌, ◌++◌, length, get_or, set, sym, refl, ap, ◌∙◌, ap₂, suc-le-suc, mod-lt, mul-le-mul_left, div-one, arith, pow_mono}
+use Rattle.std.proofs.lemmas.Nat.{pow_pos, pow-add, shr-shr, shr_split, div_below}
 use Rattle.std.proofs.lemmas.List.{take_all}
 use Rattle.image.specs.Bits.{part, put, number_of, low_bytes, bytes_for}
 use Rattle.image.specs.Reading.{total, place, numbers_in, Within}
-use Rattle.image.proofs.Parts.{low, high, put_is, put_lt, put_digits, below_put}
-use Rattle.image.proofs.Bytes.{part_under, put_under, part_first, put_first, number_bytes}
+use Rattle.image.proofs.Parts.{low, high, put_lt}
+use Rattle.image.proofs.Bytes.{put_under, put_first, number_bytes}
 
 -- the bit string of some numbers, the first in the lowest bits
 abbrev pub join : (widths numbers : List ℕ) → ℕ

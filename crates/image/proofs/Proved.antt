@@ -1,5 +1,5 @@
 -- The laws of images, for states of accepted sheets.
-use Rattle.std.proofs.Common.{◌≡◌, ℕ, ◌+◌, ◌*◌, ◌^◌, ◌<◌, ◌≤◌, true, not, List, [], ◌∷◌, map, length, get_or, sym, refl, ap, ◌∙◌, arith}
+use Rattle.std.proofs.Common.{◌≡◌, ◌*◌, ◌≤◌, true, not, List, [], ◌∷◌, map, length, get_or, sym, ap, ◌∙◌, arith}
 use Rattle.sheet.specs.Accept.{accepted}
 use Rattle.sheet.specs.Lookup.{held, element_at, is}
 use Rattle.sheet.specs.Rules.{is_port}
@@ -9,8 +9,8 @@ use Rattle.sheet.proofs.Shapes.{sized}
 use Rattle.running.specs.States.{State, StateOf}
 use Rattle.running.proofs.Components.{there_at, component_holds}
 use Rattle.image.specs.Bits.{bytes_for}
-use Rattle.image.specs.Fields.{mode_bits, value_bits, image}
-use Rattle.image.specs.Laws.{ImagesReadBack, ImagesTellStates, LengthOfImages, LengthsBySheets}
+use Rattle.image.specs.Fields.{mode_bits, value_bits}
+use Rattle.image.specs.Laws.{ImagesReadBack, ImagesTellStates, LengthsBySheets}
 use Rattle.image.specs.Reading.{widths, total, state_read}
 use Rattle.image.proofs.Bytes.{length_bytes}
 use Rattle.image.proofs.Entries.{mode_has_room, standing, mode_bits_few, value_bits_few}

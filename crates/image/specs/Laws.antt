@@ -1,5 +1,5 @@
 -- Laws of images, for contracts to cite.
-use Rattle.std.specs.Prelude.{◌≡◌, ℕ, ◌≤◌, true, length}
+use Rattle.std.specs.Prelude.{◌≡◌, ◌≤◌, true, length}
 use Rattle.sheet.specs.Accept.{accepted}
 use Rattle.sheet.specs.Sections.{Sheet}
 use Rattle.running.specs.States.{State, StateOf}

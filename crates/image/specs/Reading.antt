@@ -6,7 +6,7 @@ use Rattle.sheet.specs.declared.rows.Element.{Element}
 use Rattle.sheet.specs.declared.rows.Entry.{Entry}
 use Rattle.sheet.specs.declared.rows.Entry.TheVariants.{Blank, Faulty, Holds}
 use Rattle.sheet.specs.Rules.{is_port}
-use Rattle.sheet.specs.Sections.{Row, Sheet, rows, components, elements}
+use Rattle.sheet.specs.Sections.{Sheet, rows, components, elements}
 use Rattle.sheet.specs.Typed.{component_entry, element_entry}
 use Rattle.running.specs.States.{State}
 use Rattle.image.specs.Bits.{number_of}

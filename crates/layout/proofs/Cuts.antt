@@ -1,12 +1,12 @@
 -- What cutting a section off the front of the bytes comes to, case by case, and all sections.
-use Rattle.std.proofs.Common.{◌≡◌, ℕ, zero, suc, ◌+◌, ◌*◌, ◌/◌, ◌<◌, ◌≤◌, Bool, true, false, ◌&&◌, eqb, ltb, leb, ◌⊎◌, List, [], ◌∷◌, ◌++◌, length, take, drop, Some, None, Ok, Err, Result, sym, refl, ap, ◌∙◌, inl, inr, ⊎_elim, mul-le-mul_right, zero-mul, div-mul-le_self, arith}
+use Rattle.std.proofs.Common.{◌≡◌, ℕ, zero, suc, ◌+◌, ◌*◌, ◌/◌, ◌<◌, ◌≤◌, true, false, ◌&&◌, eqb, ltb, leb, ◌⊎◌, List, [], ◌∷◌, length, take, drop, Some, None, Ok, Err, Result, sym, refl, ap, ◌∙◌, ⊎_elim, mul-le-mul_right, div-mul-le_self, arith}
 use native.Mathlib.Nat.{lt-div-mul-add}
 use Rattle.std.proofs.lemmas.List.{drop-drop, nil_from_length, take-take, drop-take}
 use Rattle.std.proofs.lemmas.Bool.{and_from, and_left, and_right, le-leb, lt-leb, lt-ltb}
 use Rattle.std.specs.Simd.{first_chunks}
 use Rattle.sheet.specs.declared.refusal.Refusal.{Refusal}
 use Rattle.sheet.specs.declared.refusal.Reason.TheVariants.{EndsEarly, LeftOver, CountNotAllowed}
-use Rattle.sheet.specs.Sections.{Row, Sheet, Shape, shape}
+use Rattle.sheet.specs.Sections.{Row, Sheet, Shape}
 use Rattle.sheet.specs.Tries.{Try, must, or_else, first_fault, each}
 use Rattle.sheet.specs.Accept.{refusal, count_in, span, row_fits, section_tries, layout_tries, sections_in, judged}
 use Rattle.sheet.proofs.Firsts.{first_append, each_pass, each_stops}

@@ -1,16 +1,14 @@
 -- What an accepted sheet sets is a mode or a value that it allows.
-use Rattle.std.proofs.Common.{◌≡◌, ℕ, ◌<◌, ◌≤◌, Bool, true, false, cond, not, ◌&&◌, leb, List, [], length, get_or, ℤ, pos, Some, None, Option, sym, refl, ap, ◌∙◌, subst, ⊎_elim, arith}
-use lib.Signed.{le_z}
-use Rattle.std.proofs.lemmas.Bool.{true≢false, and_parts, and_from, le-leb, not_from_false, not_from_true, cond-false, cases_Bool}
-use Rattle.sheet.specs.declared.rows.Component.{Component}
+use Rattle.std.proofs.Common.{◌≡◌, ℕ, ◌<◌, Bool, true, false, cond, not, ◌&&◌, leb, List, length, get_or, ℤ, pos, Some, None, Option, sym, refl, ap, ◌∙◌, subst, ⊎_elim}
+use Rattle.std.proofs.lemmas.Bool.{and_parts, and_from, le-leb, not_from_false, not_from_true, cond-false, cases_Bool}
 use Rattle.sheet.specs.declared.rows.Element.{Element}
 use Rattle.sheet.specs.declared.rows.Setting.{Setting}
 use Rattle.sheet.specs.declared.rows.Transition.{Transition}
 use Rattle.sheet.specs.Accept.{accepted}
-use Rattle.sheet.specs.Lookup.{held, there, component_at, element_at, transition_at, setting_at, is}
+use Rattle.sheet.specs.Lookup.{held, component_at, element_at, transition_at, setting_at, is}
 use Rattle.sheet.specs.Rules.{is_port, has_mode, event_of, condition_node}
 use Rattle.sheet.specs.Sections.{Sheet, rows, components, elements}
-use Rattle.sheet.specs.Typed.{component_entry, element_entry, setting_entry}
+use Rattle.sheet.specs.Typed.{component_entry, element_entry}
 use Rattle.sheet.proofs.Firsts.{no_pass}
 use Rattle.sheet.proofs.Lookups.{is_from}
 use Rattle.sheet.proofs.Meaning.{keeps_the_rules}

@@ -1,5 +1,5 @@
 -- A store on its way to the start: modes and values set place by place.
-use Rattle.std.proofs.Common.{◌≡◌, ℕ, ◌+◌, ◌<◌, ◌≤◌, Bool, true, false, List, map, length, get_or, set, ℤ, pos, Some, None, Option, unwrap_or, sym, refl, ap, ◌∙◌, subst, ap₂, arith}
+use Rattle.std.proofs.Common.{◌≡◌, ℕ, ◌+◌, ◌<◌, ◌≤◌, true, false, length, ℤ, pos, Some, None, Option, sym, refl, ap, ◌∙◌, subst, arith}
 use Rattle.std.proofs.lemmas.List.{length-map}
 use Rattle.sheet.specs.Accept.{accepted}
 use Rattle.sheet.specs.Lookup.{element_at}
@@ -10,7 +10,7 @@ use Rattle.running.specs.States.{State, mode_of, held_of, is_held, with_mode, wi
 use Rattle.running.proofs.StatesKept.{start_state_of}
 use Rattle.view.specs.Checks.{rest_held}
 use Rattle.view.specs.Fit.{Fit}
-use Rattle.moves.specs.Places.{Placed, with_some_value, with_modes, with_values, at_start_modes, at_start_values}
+use Rattle.moves.specs.Places.{Placed, with_some_value, at_start_modes, at_start_values}
 use Rattle.moves.proofs.Allowed.{start_mode_allowed, start_value_is, start_value_none}
 use Rattle.moves.proofs.Refills.{Refilled, refilled_none, refilled_more, refilled_kept, refilled_all}
 

@@ -1,5 +1,5 @@
 -- What can be set in a state, and states with all their modes or all their values set.
-use Rattle.std.specs.Prelude.{◌≡◌, ℕ, Bool, true, false, not, ◌&&◌, List, length, ℤ, pos, Some, None, Option}
+use Rattle.std.specs.Prelude.{◌≡◌, ℕ, Bool, false, not, ◌&&◌, List, length, ℤ, pos, Some, None, Option}
 use Rattle.sheet.specs.Lookup.{element_at, is}
 use Rattle.sheet.specs.Rules.{is_port}
 use Rattle.sheet.specs.Sections.{Sheet, rows, components, elements}

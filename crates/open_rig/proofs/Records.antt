@@ -1,6 +1,6 @@
 -- A field of each record of a table.
-use Rattle.std.proofs.Common.{◌≡◌, ℕ, ◌<◌, ◌≤◌, List, map, length, get_or, set, sym, refl, ap, ◌∙◌, arith}
-use Rattle.std.proofs.lemmas.List.{length-map, get_or-map, get_or_past, map-set, set_past}
+use Rattle.std.proofs.Common.{◌≡◌, ℕ, ◌<◌, ◌≤◌, List, map, length, get_or, set, sym, ap, ◌∙◌, arith}
+use Rattle.std.proofs.lemmas.List.{length-map, get_or-map, get_or_past, set_past}
 
 module _ {X Y : Type 0} (f : X → Y) (xs : List X) (n : ℕ) (long : n ≡ length xs) (i : ℕ) where
   -- the field of a record that is read

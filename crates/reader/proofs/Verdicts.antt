@@ -1,12 +1,11 @@
 -- The verdict, from the layout and from the rows.
-use Rattle.std.proofs.Common.{◌≡◌, ℕ, true, List, Some, None, Ok, Err, Result, sym, refl, ap, ◌∙◌}
+use Rattle.std.proofs.Common.{◌≡◌, ℕ, true, List, Some, None, Ok, Err, Result, sym, ap, ◌∙◌}
 use Rattle.layout.specs.declared.rows.Layout.{Layout}
 use Rattle.layout.specs.Laid.{rows_of, LaysOut}
 use Rattle.sheet.specs.declared.refusal.Refusal.{Refusal}
 use Rattle.sheet.specs.Sections.{Sheet, shapes, bytes}
 use Rattle.sheet.specs.Tries.{first_fault}
 use Rattle.sheet.specs.Accept.{layout_tries, sheet_tries, rows_in, tries, judged, accept, accepted}
-use Rattle.sheet.specs.Laws.{WritesBack}
 use Rattle.sheet.proofs.Acceptance.{judged_ok, judged_err, no_fault_writes}
 use Rattle.sheet.proofs.Firsts.{first_then, first_fails}
 

@@ -1,5 +1,5 @@
 -- The rows that an accepted sheet holds.
-use Rattle.std.specs.Prelude.{List, [], ◌∷◌, vec_items}
+use Rattle.std.specs.Prelude.{[], ◌∷◌, vec_items}
 use Rattle.sheet.specs.Sections.{Sheet}
 use Rattle.reader.specs.declared.accepted.AcceptedSheet.{AcceptedSheet}
 

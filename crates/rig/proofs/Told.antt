@@ -1,16 +1,15 @@
 -- What a rig tells of its state is the state.
-use Rattle.std.proofs.Common.{◌≡◌, ℕ, ◌<◌, ◌≤◌, Bool, true, false, not, List, [], length, get_or, ℤ, pos, Some, None, Option, unwrap_or, sym, refl, ap, ◌∙◌, ⊎_elim, arith}
+use Rattle.std.proofs.Common.{◌≡◌, ℕ, ◌<◌, ◌≤◌, Bool, true, false, not, [], length, get_or, ℤ, pos, Some, None, Option, unwrap_or, sym, refl, ap, ◌∙◌, ⊎_elim, arith}
 use Rattle.std.proofs.lemmas.List.{get_or_past}
 use Rattle.std.proofs.lemmas.Option.{slice_get-get_or}
-use Rattle.std.proofs.lemmas.Bool.{cases_lt, cases_Bool, not-true}
+use Rattle.std.proofs.lemmas.Bool.{cases_lt, not-true}
 use Rattle.std.specs.Option.{option_map}
 use Rattle.sheet.specs.declared.rows.Component.{Component}
-use Rattle.sheet.specs.declared.rows.Entry.{Entry}
-use Rattle.sheet.specs.declared.rows.Entry.TheVariants.{Blank, Faulty, Holds}
+use Rattle.sheet.specs.declared.rows.Entry.TheVariants.{Faulty}
 use Rattle.sheet.specs.Accept.{accepted}
 use Rattle.sheet.specs.Lookup.{held, read_by, component_at, element_at}
 use Rattle.sheet.specs.Rules.{is_port}
-use Rattle.sheet.specs.Sections.{Row, Sheet, rows, components}
+use Rattle.sheet.specs.Sections.{Sheet, rows, components}
 use Rattle.sheet.specs.Typed.{holds_if, component_entry}
 use Rattle.sheet.proofs.Firsts.{no_pass}
 use Rattle.sheet.proofs.Lookups.{is_cases}

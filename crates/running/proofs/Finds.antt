@@ -1,7 +1,6 @@
 -- Tests on what may be there, and tries of tests.
-use Rattle.std.proofs.Common.{◌≡◌, Bool, true, false, not, is_some, Some, None, Option, sym, refl, ap, ◌∙◌}
+use Rattle.std.proofs.Common.{◌≡◌, Bool, true, false, not, is_some, Some, None, Option, refl}
 use Rattle.std.proofs.lemmas.Bool.{false≢true}
-use Rattle.sheet.specs.Lookup.{is}
 use Rattle.sheet.specs.Tries.{Try, must, or_else}
 use Rattle.sheet.proofs.Firsts.{no_pass}
 

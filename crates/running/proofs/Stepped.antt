@@ -1,5 +1,5 @@
 -- What a reply says of the state after a step; a state of a sheet under another name.
-use Rattle.std.proofs.Common.{◌≡◌, ℕ, Some, None, Ok, Err, Result, sym, refl, ap, ◌∙◌, arith}
+use Rattle.std.proofs.Common.{◌≡◌, ℕ, Some, None, Ok, Err, Result, refl, arith}
 use Rattle.sheet.specs.Sections.{Sheet}
 use Rattle.sheet.specs.Tries.{Try}
 use Rattle.running.specs.declared.kinds.Step.{Step}

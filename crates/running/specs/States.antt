@@ -1,12 +1,12 @@
 -- A state of a sheet: a mode for each component and a value for each held element.
-use Rattle.std.specs.Prelude.{◌≡◌, ℕ, ◌≤◌, Bool, true, false, cond, not, ◌&&◌, List, map, length, ℤ, pos, Some, None, int_le, slice_index, slice_index_or, slice_set}
+use Rattle.std.specs.Prelude.{◌≡◌, ℕ, ◌≤◌, Bool, true, false, cond, not, ◌&&◌, List, map, length, ℤ, pos, Some, int_le, slice_index, slice_index_or, slice_set}
 use Rattle.sheet.specs.declared.rows.Component.{Component}
 use Rattle.sheet.specs.declared.rows.Element.{Element}
 use Rattle.sheet.specs.declared.rows.Entry.{Entry}
 use Rattle.sheet.specs.declared.rows.Entry.TheVariants.{Blank, Faulty, Holds}
 use Rattle.sheet.specs.Lookup.{component_at, element_at, is}
 use Rattle.sheet.specs.Rules.{is_port}
-use Rattle.sheet.specs.Sections.{Row, Sheet, rows, components, elements}
+use Rattle.sheet.specs.Sections.{Sheet, rows, components, elements}
 use Rattle.sheet.specs.Typed.{component_entry, element_entry}
 
 -- For each component its mode, and for each element its value if it is held, else 0.

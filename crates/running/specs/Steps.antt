@@ -1,5 +1,5 @@
 -- Steps, replies, the state after a step, reached states and answers.
-use Rattle.std.specs.Prelude.{◌≡◌, ℕ, Bool, true, false, cond, not, ◌&&◌, ◌||◌, List, [], ◌∷◌, ◌++◌, map, ℤ, pos, is_some, Some, None, Ok, Err, Option, Result, ◌==◌, ◌≢◌, nat_eq, slice_index_or, slice_set}
+use Rattle.std.specs.Prelude.{◌≡◌, ℕ, Bool, true, false, cond, not, ◌&&◌, ◌||◌, List, [], ◌∷◌, ◌++◌, ℤ, pos, is_some, Some, None, Ok, Err, Option, Result, ◌==◌, ◌≢◌, nat_eq, slice_index_or, slice_set}
 use Rattle.std.specs.Option.{option_map}
 use Rattle.sheet.specs.declared.rows.Connection.{Connection}
 use Rattle.sheet.specs.declared.rows.Element.{Element}

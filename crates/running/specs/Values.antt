@@ -4,7 +4,7 @@ use Rattle.sheet.specs.declared.rows.Element.{Element}
 use Rattle.sheet.specs.declared.rows.Flow.{Flow}
 use Rattle.sheet.specs.declared.rows.Node.{Node}
 use Rattle.sheet.specs.declared.rows.Node.TheVariants.{Constant, Element as Reading, Sum, Difference, True, Equal, Less, Not, And, InMode}
-use Rattle.sheet.specs.Lookup.{held, component_at, element_at, node_at, is}
+use Rattle.sheet.specs.Lookup.{held, element_at, node_at, is}
 use Rattle.sheet.specs.Rules.{is_port}
 use Rattle.sheet.specs.Sections.{Row, Sheet, rows, elements, flows}
 use Rattle.sheet.specs.Tables.{grow, cell}

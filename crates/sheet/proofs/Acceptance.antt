@@ -1,10 +1,10 @@
 -- Verdicts name the first fault; reading and writing undo each other.
-use Rattle.std.proofs.Common.{◌≡◌, ℕ, Bool, true, false, not, ◌&&◌, List, ◌++◌, is_some, Some, None, Ok, Err, Result, sym, refl, ap, ◌∙◌, arith}
+use Rattle.std.proofs.Common.{◌≡◌, ℕ, true, not, List, is_some, Some, None, Ok, Err, Result, refl, ap, ◌∙◌, arith}
 use Rattle.std.proofs.lemmas.Bool.{and_parts, and_from, false≢true}
 use Rattle.sheet.specs.declared.refusal.Refusal.{Refusal}
 use Rattle.sheet.specs.Sections.{Sheet, shapes, bytes, shaped, bytes_of}
 use Rattle.sheet.specs.Tries.{Try, first_fault, MeansFirst}
-use Rattle.sheet.specs.Accept.{layout_tries, sheet_tries, rows_in, accepted, tries, judged, verdict, accept}
+use Rattle.sheet.specs.Accept.{layout_tries, sheet_tries, rows_in, accepted, tries, judged, accept}
 use Rattle.sheet.specs.Laws.{NamesTheFirstFault, WritesBack, ReadsBack}
 use Rattle.sheet.proofs.Firsts.{means_first, first_parts, first_both}
 use Rattle.sheet.proofs.Layouts.{layout_bytes, layout_shaped, shaped_layout, shaped_sections}

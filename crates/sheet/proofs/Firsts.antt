@@ -1,7 +1,7 @@
 -- The first fault of tries one after the other, and what it means.
-use Rattle.std.proofs.Common.{◌≡◌, ℕ, zero, suc, ◌+◌, ◌<◌, ◌≤◌, Bool, true, false, List, [], ◌∷◌, ◌++◌, length, get_or, Some, None, Option, sym, refl, ap, ◌∙◌, ⊎_elim, add-one, arith}
+use Rattle.std.proofs.Common.{◌≡◌, ℕ, zero, suc, ◌+◌, ◌<◌, ◌≤◌, List, [], ◌∷◌, ◌++◌, get_or, Some, None, sym, refl, ap, ◌∙◌, ⊎_elim, add-one, arith}
 use Rattle.std.proofs.lemmas.Bool.{cases_lt}
-use Rattle.sheet.specs.Tries.{Try, must, or_else, first_fault, each, AllPass, IsFirst, MeansFirst}
+use Rattle.sheet.specs.Tries.{Try, or_else, first_fault, each, AllPass, IsFirst, MeansFirst}
 
 -- a try that fails does not pass
 pub no_pass : {F A : Type 0} (f : F) → ◌≡◌ {A = Try F} (Some f) None → A

@@ -1,12 +1,11 @@
 -- The layout and the bytes of a sheet: each from the other.
-use Rattle.std.proofs.Common.{◌≡◌, ℕ, zero, suc, ◌+◌, ◌-◌, ◌*◌, ◌<◌, ◌≤◌, Bool, true, false, ◌&&◌, eqb, ltb, leb, List, [], ◌∷◌, ◌++◌, length, get_or, take, drop, Some, None, sym, refl, ap, ◌∙◌, append_assoc, mul-le-mul_right, zero-mul, arith, w8, Fits}
+use Rattle.std.proofs.Common.{◌≡◌, ℕ, zero, suc, ◌+◌, ◌*◌, ◌<◌, ◌≤◌, Bool, true, false, ◌&&◌, eqb, ltb, leb, List, [], ◌∷◌, ◌++◌, length, get_or, take, drop, None, sym, refl, ap, ◌∙◌, append_assoc, mul-le-mul_right, zero-mul, arith, w8, Fits}
 use Rattle.std.proofs.lemmas.List.{length-append, length-drop, length-take-le, take-append-drop, take_at, drop_at, drop-drop, nil_from_length}
-use Rattle.std.proofs.lemmas.Bool.{and_parts, and_from, eqb-true, eq-eqb, leb-true, le-leb, lt-ltb, ltb-true, cases_Bool, false≢true}
+use Rattle.std.proofs.lemmas.Bool.{and_parts, and_from, eqb-true, eq-eqb, leb-true, le-leb, lt-ltb, ltb-true, false≢true}
 use Rattle.std.specs.Simd.{first_chunks}
 use Rattle.sheet.specs.declared.refusal.Reason.TheVariants.{EndsEarly, LeftOver, CountNotAllowed}
-use Rattle.sheet.specs.declared.refusal.Refusal.{Refusal}
 use Rattle.sheet.specs.Sections.{Row, Sheet, Shape, bytes, wide, fits_shape, shaped, strung, bytes_of}
-use Rattle.sheet.specs.Tries.{Try, must, or_else, first_fault, each}
+use Rattle.sheet.specs.Tries.{Try, must, first_fault}
 use Rattle.sheet.specs.Accept.{refusal, count_in, span, row_fits, section_tries, layout_tries, sections_in}
 use Rattle.sheet.proofs.Firsts.{no_pass, or_else_parts, first_parts, first_both, each_pass, each_passed}
 

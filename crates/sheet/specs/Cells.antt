@@ -1,5 +1,5 @@
 -- The counts and bytes of a sheet's rows.
-use Rattle.std.specs.Prelude.{ℕ, List, [], length, Option, slice_index_or}
+use Rattle.std.specs.Prelude.{ℕ, [], length, Option, slice_index_or}
 use Rattle.std.specs.Option.{option_map}
 use Rattle.std.specs.List.{slice_get}
 use Rattle.sheet.specs.Sections.{Sheet, rows}

@@ -1,5 +1,5 @@
 -- The rows of a sheet by their numbers, as typed values. A row that is missing, blank or faulty is not there.
-use Rattle.std.specs.Prelude.{ℕ, Bool, true, false, List, [], ◌∷◌, Some, None, Option}
+use Rattle.std.specs.Prelude.{ℕ, Bool, false, List, Some, None, Option}
 use Rattle.std.specs.List.{slice_get}
 use Rattle.sheet.specs.declared.rows.Entry.{Entry}
 use Rattle.sheet.specs.declared.rows.Entry.TheVariants.{Blank, Faulty, Holds}

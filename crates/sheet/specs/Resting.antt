@@ -1,6 +1,6 @@
 -- What a node rests on: itself, the element or mode that it names, and all that its operand nodes rest on. It does not
 -- go on from a port to the port's flows.
-use Rattle.std.specs.Prelude.{◌≡◌, ℕ, Bool, true, false, ◌&&◌, ◌||◌, List, [], ◌∷◌, Some, None, Option, ◌==◌, nat_eq, nat_le, slice_index_or}
+use Rattle.std.specs.Prelude.{◌≡◌, ℕ, Bool, true, false, ◌&&◌, ◌||◌, List, [], ◌∷◌, Some, ◌==◌, nat_eq, nat_le, slice_index_or}
 use Rattle.sheet.specs.declared.rows.Node.{Node}
 use Rattle.sheet.specs.declared.rows.Node.TheVariants.{Constant, Element as Reading, Sum, Difference, True, Equal, Less, Not, And, InMode}
 use Rattle.sheet.specs.declared.rows.Target.{Target}

@@ -1,6 +1,6 @@
 -- What makes a row right that is neither blank nor faulty by itself: what it names is there and fits, it does not clash
 -- with an earlier row, and it rests on nothing forbidden.
-use Rattle.std.specs.Prelude.{ℕ, zero, suc, ◌+◌, ◌^◌, Bool, true, false, not, ◌&&◌, ◌||◌, ltb, List, [], is_some, Some, None, Option, ◌==◌, bit_and, nat_eq, nat_le, nat_lt}
+use Rattle.std.specs.Prelude.{ℕ, zero, suc, ◌+◌, ◌^◌, Bool, true, false, not, ◌&&◌, ◌||◌, ltb, List, is_some, Some, None, Option, ◌==◌, bit_and, nat_eq, nat_le, nat_lt}
 use Rattle.sheet.specs.declared.rows.Entry.{Entry}
 use Rattle.sheet.specs.declared.rows.Component.{Component}
 use Rattle.sheet.specs.declared.rows.Kind.{Kind}

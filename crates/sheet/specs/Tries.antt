@@ -36,7 +36,7 @@ pub record IsFirst {F : Type 0} (ts : List (Try F)) (f : F) : Type 0 where
   pub fails : get_or ts place None ≡ Some f
   pub earlier : (k : ℕ) → k < place → slice_index_or ts k None ≡ None
 
--- What `first-fault` means, for any list of tries: no fault where all pass, and else the first one.
+-- What `first_fault` means, for any list of tries: no fault where all pass, and else the first one.
 abbrev pub MeansFirst : {F : Type 0} → List (Try F) → Try F → Type 0
 MeansFirst ts None = AllPass ts
 MeansFirst ts (Some f) = IsFirst ts f

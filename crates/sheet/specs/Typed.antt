@@ -1,5 +1,5 @@
 -- What the bytes of a row say, section by section: blank, faulty by itself, or a typed value.
-use Rattle.std.specs.Prelude.{ℕ, zero, suc, ◌+◌, ◌*◌, ◌%◌, Bool, true, false, cond, not, ◌&&◌, List, [], ◌∷◌, ℤ, Some, None, Option, ◌==◌, int_le, nat_le, slice_index}
+use Rattle.std.specs.Prelude.{ℕ, zero, suc, ◌+◌, ◌*◌, ◌%◌, Bool, true, false, cond, not, ◌&&◌, ℤ, Some, None, Option, ◌==◌, int_le, nat_le, slice_index}
 use Rattle.std.specs.Int.{w16}
 use Rattle.std.proofs.Common.{to_z}
 use Rattle.sheet.specs.declared.rows.Entry.{Entry}
@@ -8,7 +8,6 @@ use Rattle.sheet.specs.declared.rows.Component.{Component}
 use Rattle.sheet.specs.declared.rows.Kind.{Kind}
 use Rattle.sheet.specs.declared.rows.Kind.TheVariants.{Held, Port}
 use Rattle.sheet.specs.declared.rows.Element.{Element}
-use Rattle.sheet.specs.declared.rows.Direction.{Direction}
 use Rattle.sheet.specs.declared.rows.Direction.TheVariants.{Out, In}
 use Rattle.sheet.specs.declared.rows.Event.{Event}
 use Rattle.sheet.specs.declared.rows.Node.{Node}

@@ -1,11 +1,11 @@
 -- A row from its bytes.
-use Rattle.std.proofs.Common.{◌≡◌, ℕ, ◌+◌, ◌<◌, ◌≤◌, true, List, [], ◌∷◌, ◌++◌, length, get_or, take, set, Some, None, Option, sym, refl, ap, ◌∙◌, ⊎_elim, arith}
+use Rattle.std.proofs.Common.{◌≡◌, ℕ, ◌+◌, ◌<◌, ◌≤◌, true, List, [], ◌∷◌, ◌++◌, length, get_or, take, set, Some, None, Option, sym, ap, ◌∙◌, ⊎_elim, arith}
 use Rattle.std.proofs.lemmas.List.{length-set, take_more, take_more_set, take_all, get_or_past}
 use Rattle.std.proofs.lemmas.Option.{slice_get-get_or, slice_get_past}
 use Rattle.std.proofs.lemmas.Bool.{cases_lt}
 use Rattle.std.specs.List.{slice_get}
 use Rattle.sheet.specs.Accept.{accepted}
-use Rattle.sheet.specs.Sections.{Row, Sheet, rows, width_of}
+use Rattle.sheet.specs.Sections.{Sheet, rows, width_of}
 use Rattle.sheet.proofs.Lookups.{byte_there, byte_missing}
 use Rattle.sheet.proofs.Shapes.{row_width}
 

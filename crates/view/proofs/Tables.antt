@@ -1,14 +1,14 @@
 -- The tables of values.
-use Rattle.std.proofs.Common.{◌≡◌, ℕ, ◌+◌, ◌/◌, ◌%◌, ◌^◌, ◌<◌, ◌≤◌, Bool, true, false, cond, eqb, List, [], ◌∷◌, ◌++◌, length, get_or, take, drop, set, ℤ, pos, Some, None, Option, sym, refl, ap, ◌∙◌, ⊎_elim, arith, pow_mono}
+use Rattle.std.proofs.Common.{◌≡◌, ℕ, ◌+◌, ◌^◌, ◌<◌, ◌≤◌, true, false, cond, List, [], length, get_or, take, drop, set, ℤ, None, Option, sym, ap, ◌∙◌, ⊎_elim, arith, pow_mono}
 use native.Mathlib.Nat.{div-eq_of_lt}
 use Rattle.std.proofs.lemmas.List.{length-set, take_more_set, take_all, get_or_past, at_drop_more, drop_all}
-use Rattle.std.proofs.lemmas.Option.{slice_get-get_or, slice_get_past}
+use Rattle.std.proofs.lemmas.Option.{slice_get-get_or}
 use Rattle.std.proofs.lemmas.Bool.{cases_lt, cond-true, cond-false}
 use Rattle.sheet.specs.declared.rows.Flow.{Flow}
 use Rattle.sheet.specs.Accept.{accepted}
-use Rattle.sheet.specs.Lookup.{held, read_by, there, node_at}
+use Rattle.sheet.specs.Lookup.{held, read_by, there}
 use Rattle.sheet.specs.Sections.{Row, Sheet, rows, nodes, elements}
-use Rattle.sheet.specs.Tables.{grow, cell}
+use Rattle.sheet.specs.Tables.{grow}
 use Rattle.sheet.specs.Typed.{flow_entry}
 use Rattle.sheet.proofs.Lookups.{there_past}
 use Rattle.sheet.proofs.Shapes.{sized}

@@ -1,9 +1,9 @@
 -- The lengths of sections, from what their counts are.
-use Rattle.std.proofs.Common.{◌≡◌, ℕ, ◌+◌, ◌*◌, ◌<◌, ◌≤◌, true, length, Some, None, Option, sym, refl, ap, ◌∙◌, mul-le-mul, arith}
+use Rattle.std.proofs.Common.{◌≡◌, ℕ, ◌+◌, ◌*◌, ◌<◌, ◌≤◌, true, length, Some, None, Option, sym, ◌∙◌, mul-le-mul, arith}
 use Rattle.sheet.specs.Sections.{Sheet, rows, section_bytes, width_of}
 use Rattle.sheet.specs.Accept.{accepted}
 use Rattle.sheet.specs.Cells.{count_of}
-use Rattle.sheet.proofs.Shapes.{Sized, sized}
+use Rattle.sheet.proofs.Shapes.{sized}
 
 module _ (s : Sheet) (k : ℕ) (a : accepted s ≡ true) (l : k < 9) where
   -- a section of an accepted sheet has a count

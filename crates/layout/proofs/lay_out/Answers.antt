@@ -1,8 +1,8 @@
-use Rattle.std.proofs.Common.{◌≡◌, ℕ, List, Some, None, Ok, Err, Result, sym, refl, ◌∙◌, arith}
+use Rattle.std.proofs.Common.{ℕ, List, Ok, Err, Result, sym, ◌∙◌}
 use Rattle.sheet.specs.declared.refusal.Refusal.{Refusal}
-use Rattle.sheet.specs.Sections.{Sheet, shapes}
-use Rattle.sheet.specs.Tries.{Try, first_fault}
-use Rattle.sheet.specs.Accept.{layout_tries, rows_in, judged}
+use Rattle.sheet.specs.Sections.{shapes}
+use Rattle.sheet.specs.Tries.{first_fault}
+use Rattle.sheet.specs.Accept.{layout_tries, rows_in}
 use Rattle.sheet.proofs.Acceptance.{judged_ok, judged_err}
 use Rattle.layout.specs.declared.rows.Layout.{Layout}
 use Rattle.layout.specs.Laid.{rows_of, LaysOut}

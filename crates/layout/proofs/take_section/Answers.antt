@@ -1,4 +1,4 @@
-use Rattle.std.proofs.Common.{◌≡◌, ◌*◌, ◌/◌, ◌≤◌, length, take, drop, Ok, Err, sym, refl, ap, ◌∙◌, inl, inr, mul-le-mul_right, div-mul-le_self, mul-div_cancel, arith}
+use Rattle.std.proofs.Common.{◌≡◌, ◌*◌, ◌/◌, ◌≤◌, length, Ok, sym, ap, ◌∙◌, inl, inr, mul-le-mul_right, div-mul-le_self, mul-div_cancel, arith}
 use Rattle.std.specs.Simd.{first_chunks}
 use Rattle.sheet.specs.Sections.{shape}
 use Rattle.sheet.proofs.Layouts.{bytes_from}

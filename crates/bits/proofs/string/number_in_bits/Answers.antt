@@ -1,4 +1,4 @@
-use Rattle.std.proofs.Common.{◌≡◌, ℕ, ◌+◌, ◌*◌, ◌%◌, ◌^◌, ◌<◌, ap, arith, pow_mono}
+use Rattle.std.proofs.Common.{◌≡◌, ◌+◌, ◌*◌, ◌%◌, ◌^◌, ap, arith, pow_mono}
 use Rattle.std.proofs.lemmas.Nat.{shl_whole}
 use Rattle.image.specs.Bits.{number_of, part}
 use Rattle.image.proofs.Parts.{part_lt, part_more}

@@ -1,4 +1,4 @@
-use Rattle.std.proofs.Common.{◌≡◌, ℕ, ◌+◌, ◌*◌, ◌%◌, ◌^◌, ◌<◌, sym, ap, ◌∙◌, arith}
+use Rattle.std.proofs.Common.{◌≡◌, ◌+◌, sym, ap, ◌∙◌, arith}
 use Rattle.image.specs.Bits.{number_of, part, put}
 use Rattle.image.proofs.Parts.{part_lt, part_front, part_whole, put_more}
 use Rattle.bits.proofs.string.put_in_bits.Goals as goal

@@ -1,4 +1,4 @@
-use Rattle.std.proofs.Common.{ℕ, ◌/◌, ◌%◌, ◌^◌, ◌<◌, arith}
+use Rattle.std.proofs.Common.{◌/◌, ◌%◌, ◌^◌, arith}
 use Rattle.image.proofs.Parts.{part_le, part_lt, put_lt}
 use Rattle.bits.proofs.Cells.{shifted}
 use Rattle.bits.proofs.string.with_bit.Goals as goal

@@ -1,4 +1,4 @@
-use Rattle.std.proofs.Common.{◌≡◌, List, drop, sym, refl, ap, ◌∙◌, subst}
+use Rattle.std.proofs.Common.{List, sym, ap, ◌∙◌, subst}
 use Rattle.std.proofs.lemmas.List.{drop_more, drop_all}
 use Rattle.running.specs.States.{State, start_state}
 use Rattle.cutting.specs.declared.kinds.RunCall.{RunCall}
@@ -6,7 +6,7 @@ use Rattle.cutting.specs.declared.kinds.RunCall.TheVariants.{Home}
 use Rattle.cutting.specs.Agreement.{Agree, Pile}
 use Rattle.cutting.specs.Laws.{Alike}
 use Rattle.cutting.proofs.PilesAgree.{whole_and_pile_are_alike}
-use Rattle.comparing.proofs.Runs.{Along, along_start, along_call, along_end}
+use Rattle.comparing.proofs.Runs.{Along, along_call, along_end}
 use Rattle.comparing.proofs.compare.compare.Goals as goal
 
 pub loop-call-preserved : goal.loop-call-preserved

@@ -1,8 +1,7 @@
-use Rattle.std.proofs.Common.{◌≡◌, Bool, true, ℤ, is_some, Some, None, Decides, Option, sym, refl, ap, ◌∙◌}
+use Rattle.std.proofs.Common.{◌≡◌, ℤ, is_some, Some, None, Option, sym, refl, ap, ◌∙◌}
 use Rattle.std.specs.Option.{option_map}
 use Rattle.sheet.specs.declared.rows.Element.{Element}
 use Rattle.sheet.specs.Lookup.{element_at}
-use Rattle.running.specs.Steps.{value_at}
 use Rattle.comparing.proofs.same.is_same_value.Goals as goal
 
 -- a value is told exactly where the element is there

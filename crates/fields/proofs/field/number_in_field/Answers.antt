@@ -1,6 +1,6 @@
-use Rattle.std.proofs.Common.{◌≡◌, ℕ, ◌^◌, ◌<◌, length, get_or, sym, ap, ◌∙◌, subst, ap₂, arith}
+use Rattle.std.proofs.Common.{◌^◌, ◌<◌, get_or, sym, ◌∙◌, subst, ap₂, arith}
 use Rattle.image.specs.Bits.{number_of, part}
-use Rattle.image.specs.Reading.{widths, total, place, numbers_in}
+use Rattle.image.specs.Reading.{widths, place}
 use Rattle.image.proofs.Layouts.{get_or_numbers, place_le}
 use Rattle.image.proofs.Parts.{part_lt}
 use Rattle.image.proofs.Proved.{total_few}

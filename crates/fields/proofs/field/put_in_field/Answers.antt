@@ -1,6 +1,6 @@
-use Rattle.std.proofs.Common.{◌≡◌, ℕ, ◌^◌, ◌<◌, length, get_or, sym, ap, ◌∙◌, subst, ap₂, arith}
+use Rattle.std.proofs.Common.{◌^◌, ◌<◌, sym, ap, ◌∙◌, subst, ap₂, arith}
 use Rattle.image.specs.Bits.{number_of, put}
-use Rattle.image.specs.Reading.{widths, total, place, numbers_in}
+use Rattle.image.specs.Reading.{widths, total, numbers_in}
 use Rattle.image.proofs.Layouts.{numbers_put, place_le, put_within}
 use Rattle.image.proofs.Proved.{total_few}
 use Rattle.reader.specs.Means.{rows_held}

@@ -1,4 +1,4 @@
-use Rattle.std.proofs.Common.{◌≡◌, suc, ◌+◌, ◌<◌, length, sym, ap, ◌∙◌, ap₂, add-one, arith}
+use Rattle.std.proofs.Common.{◌+◌, ◌<◌, length, sym, ap, ◌∙◌, ap₂, add-one, arith}
 use Rattle.image.specs.Reading.{widths, place}
 use Rattle.image.proofs.Layouts.{place_le, place_more}
 use Rattle.image.proofs.Proved.{total_few}

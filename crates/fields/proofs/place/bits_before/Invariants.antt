@@ -1,4 +1,4 @@
-use Rattle.std.proofs.Common.{◌≡◌, ◌*◌, ◌≤◌}
+use Rattle.std.proofs.Common.{◌≡◌}
 use Rattle.image.specs.Reading.{widths, place}
 use Rattle.reader.specs.Means.{rows_held}
 use Rattle.fields.proofs.place.bits_before.Given as goal

@@ -1,6 +1,6 @@
-use Rattle.std.proofs.Common.{◌≡◌, ◌+◌, ◌/◌, length, ap, ◌∙◌, arith}
+use Rattle.std.proofs.Common.{◌≡◌, ◌+◌, length, ap, ◌∙◌, arith}
 use Rattle.image.specs.Bits.{bytes_for}
-use Rattle.image.specs.Reading.{widths, total, place}
+use Rattle.image.specs.Reading.{widths, total}
 use Rattle.image.proofs.Images.{length_widths}
 use Rattle.image.proofs.Layouts.{place_all}
 use Rattle.image.proofs.Proved.{total_few}

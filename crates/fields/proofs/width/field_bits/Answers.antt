@@ -1,4 +1,4 @@
-use Rattle.std.proofs.Common.{◌≡◌, ◌∙◌, arith}
+use Rattle.std.proofs.Common.{◌∙◌, arith}
 use Rattle.reader.specs.Means.{rows_held}
 use Rattle.sheet.specs.Sections.{components}
 use Rattle.sheet.proofs.Shapes.{count_is}

@@ -1,4 +1,4 @@
-use Rattle.std.proofs.Common.{◌≡◌, sym, w32, SFits, rules}
+use Rattle.std.proofs.Common.{sym, w32, SFits, rules}
 use Rattle.std.proofs.lemmas.Int.{to_z-of_z}
 use Rattle.image.proofs.Entries.{ranged_at}
 use Rattle.reader.specs.Means.{rows_held}

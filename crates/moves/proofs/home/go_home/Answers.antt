@@ -1,6 +1,5 @@
-use Rattle.std.proofs.Common.{◌≡◌, ap, ◌∙◌}
-use Rattle.running.specs.States.{start_state}
-use Rattle.moves.specs.Places.{at_start_values, with_values}
+use Rattle.std.proofs.Common.{◌∙◌}
+use Rattle.moves.specs.Places.{at_start_values}
 use Rattle.moves.proofs.Homes.{still_accepted, still_placed}
 use Rattle.moves.proofs.home.go_home.Goals as goal
 

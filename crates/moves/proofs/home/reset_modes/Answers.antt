@@ -1,5 +1,5 @@
-use Rattle.std.proofs.Common.{◌≡◌, length, sym, ◌∙◌, arith}
-use Rattle.sheet.specs.Sections.{rows, components}
+use Rattle.std.proofs.Common.{◌∙◌, arith}
+use Rattle.sheet.specs.Sections.{components}
 use Rattle.sheet.proofs.Shapes.{count_is}
 use Rattle.moves.proofs.Homes.{no_modes_reset, mode_can_be_set, one_mode_more, all_modes_reset, still_accepted}
 use Rattle.moves.proofs.home.reset_modes.Goals as goal

@@ -1,4 +1,4 @@
-use Rattle.std.proofs.Common.{◌≡◌, refl, ◌∙◌, arith}
+use Rattle.std.proofs.Common.{refl, ◌∙◌, arith}
 use Rattle.sheet.specs.Sections.{elements}
 use Rattle.sheet.proofs.Shapes.{count_is}
 use Rattle.moves.proofs.Homes.{no_values_reset, one_element_more, all_values_reset, still_accepted}

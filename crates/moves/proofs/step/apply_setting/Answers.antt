@@ -1,4 +1,4 @@
-use Rattle.std.proofs.Common.{◌≡◌, true, sym, refl, ap, ◌∙◌, subst, w32, SFits, rules}
+use Rattle.std.proofs.Common.{◌≡◌, true, sym, ◌∙◌, subst, w32, SFits, rules}
 use Rattle.std.proofs.lemmas.Int.{to_z-of_z}
 use Rattle.running.specs.Steps.{parts}
 use Rattle.moves.specs.Places.{can_hold}

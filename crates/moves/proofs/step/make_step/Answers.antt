@@ -1,7 +1,6 @@
-use Rattle.std.proofs.Common.{◌≡◌, Ok, Err, sym, refl, ap, ◌∙◌}
+use Rattle.std.proofs.Common.{◌≡◌, Err, sym, refl, ap, ◌∙◌}
 use Rattle.std.proofs.lemmas.Result.{err_from_is_err_and}
-use Rattle.running.specs.States.{State}
-use Rattle.running.specs.Steps.{parts, moved, settled, made_state, step_state, step_reply}
+use Rattle.running.specs.Steps.{parts, moved}
 use Rattle.running.proofs.Stepped.{refused_stays, made_goes}
 use Rattle.sheet.specs.Sections.{rows, settings}
 use Rattle.moves.specs.Places.{with_modes}

@@ -1,4 +1,4 @@
-use Rattle.std.proofs.Common.{◌≡◌, ◌+◌, ◌<◌, List, length, drop, sym, refl, ap, ◌∙◌, arith}
+use Rattle.std.proofs.Common.{◌≡◌, ◌+◌, ◌<◌, length, drop, sym, refl, ap, ◌∙◌, arith}
 use Rattle.running.specs.States.{State}
 use Rattle.running.specs.Steps.{parts}
 use Rattle.sheet.specs.Lookup.{setting_at}

@@ -1,4 +1,4 @@
-use Rattle.std.proofs.Common.{◌≡◌, sym, refl, ap, ◌∙◌}
+use Rattle.std.proofs.Common.{sym}
 use Rattle.moves.proofs.Allowed.{to_mode_allowed}
 use Rattle.moves.proofs.step.take_transition.Goals as goal
 

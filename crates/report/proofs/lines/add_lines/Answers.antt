@@ -1,4 +1,4 @@
-use Rattle.std.proofs.Common.{◌≡◌, ℕ, ◌+◌, List, ◌++◌, string_bytes, sym, ap, ◌∙◌, append_assoc, append-nil, add-one, arith, rules}
+use Rattle.std.proofs.Common.{◌≡◌, ℕ, ◌+◌, List, ◌++◌, string_bytes, sym, ap, ◌∙◌, append_assoc, append-nil, add-one, arith}
 use Rattle.report.specs.Text.{lines}
 use Rattle.report.proofs.lines.add_lines.Goals as goal
 

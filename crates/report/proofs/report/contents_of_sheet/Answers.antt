@@ -1,4 +1,4 @@
-use Rattle.std.proofs.Common.{◌≡◌, ℕ, List, ◌++◌, length, string_bytes, codes, unwrap_or, sym, ap, ◌∙◌, append_assoc}
+use Rattle.std.proofs.Common.{◌≡◌, ℕ, List, ◌++◌, length, string_bytes, codes, unwrap_or, ap, ◌∙◌, append_assoc}
 use Rattle.reader.specs.Means.{rows_held}
 use Rattle.sheet.specs.Sections.{rows, components, questions}
 use Rattle.report.specs.Text.{count_line, component_line, question_line, lines}

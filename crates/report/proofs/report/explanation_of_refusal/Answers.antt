@@ -1,6 +1,5 @@
-use Rattle.std.proofs.Common.{◌++◌, codes, decimal, ap, ◌∙◌}
+use Rattle.std.proofs.Common.{◌++◌, codes, decimal, ◌∙◌}
 use Rattle.std.proofs.lemmas.Result.{IfOk-weaker}
-use Rattle.report.specs.Text.{section_name}
 use Rattle.report.proofs.report.explanation_of_refusal.Goals as goal
 
 pub returns : goal.returns

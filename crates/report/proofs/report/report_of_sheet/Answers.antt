@@ -1,4 +1,4 @@
-use Rattle.std.proofs.Common.{◌≡◌, List, ◌++◌, length, string_bytes, sym, ap, ◌∙◌}
+use Rattle.std.proofs.Common.{◌≡◌, ◌++◌, length, string_bytes, sym, ap, ◌∙◌}
 use Rattle.reader.specs.Means.{rows_held}
 use Rattle.sheet.specs.Sections.{bytes_of}
 use Rattle.report.specs.Text.{contents_text, rewritten_line}

@@ -1,4 +1,4 @@
-use Rattle.std.proofs.Common.{◌≡◌, not, sym, ap, ◌∙◌}
+use Rattle.std.proofs.Common.{not, sym, ap}
 use Rattle.sheet.specs.Lookup.{there, is}
 use Rattle.rules.proofs.Below.{none_more, some_below}
 use Rattle.rules.proofs.checks.is_clear_of_earlier.Goals as goal

@@ -1,4 +1,4 @@
-use Rattle.std.proofs.Common.{◌≡◌, sym, ap, ◌∙◌, ⊎_elim}
+use Rattle.std.proofs.Common.{sym, ap, ◌∙◌, ⊎_elim}
 use Rattle.sheet.specs.Lookup.{held}
 use Rattle.sheet.proofs.Lookups.{there_read, there_past}
 use Rattle.sheet.proofs.decode.row_at.Goals as goal

@@ -1,9 +1,8 @@
-use Rattle.std.proofs.Common.{◌≡◌, ℕ, ◌+◌, ◌<◌, ◌≤◌, Bool, true, false, ◌||◌, List, [], length, get_or, drop, Option, sym, ap, ◌∙◌, arith}
+use Rattle.std.proofs.Common.{◌≡◌, ℕ, ◌+◌, ◌<◌, Bool, true, false, ◌||◌, List, [], length, drop, Option, sym, ap, ◌∙◌, arith}
 use Rattle.std.proofs.lemmas.List.{at_drop_more, drop_all}
 use Rattle.std.proofs.lemmas.Option.{slice_get-get_or}
-use Rattle.std.proofs.lemmas.Bool.{or_left}
 use Rattle.sheet.specs.declared.rows.Connection.{Connection}
-use Rattle.sheet.specs.Lookup.{held, read_by, there, is}
+use Rattle.sheet.specs.Lookup.{read_by, there, is}
 use Rattle.sheet.specs.Sections.{Row, rows, connections}
 use Rattle.sheet.specs.Typed.{connection_entry}
 use Rattle.sheet.proofs.Shapes.{count_is}

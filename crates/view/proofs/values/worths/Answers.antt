@@ -1,4 +1,4 @@
-use Rattle.std.proofs.Common.{◌≡◌, ℕ, ◌-◌, take, refl, ap, ◌∙◌, arith}
+use Rattle.std.proofs.Common.{◌≡◌, ◌-◌, take, ap, ◌∙◌, arith}
 use Rattle.sheet.specs.Tables.{grow}
 use Rattle.running.specs.Values.{node_cell}
 use Rattle.view.proofs.Tables.{filled_more, filled_all, node_table}

@@ -1,4 +1,4 @@
-use Rattle.std.proofs.Common.{◌≡◌, Ok, Err, refl, ap, ◌∙◌, arith}
+use Rattle.std.proofs.Common.{Ok, ap, arith}
 use Rattle.writer.proofs.Puts.{put_front}
 use Rattle.writer.proofs.front.write_front.Goals as goal
 

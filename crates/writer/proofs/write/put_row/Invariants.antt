@@ -1,4 +1,4 @@
-use Rattle.std.proofs.Common.{◌≡◌, ◌-◌, ◌≤◌, [], length, get_or, take}
+use Rattle.std.proofs.Common.{◌-◌, [], length, get_or, take}
 use Rattle.sheet.specs.Sections.{rows}
 use Rattle.writer.specs.Written.{Put}
 use Rattle.writer.proofs.write.put_row.Given as goal

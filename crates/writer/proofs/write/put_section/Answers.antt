@@ -1,6 +1,5 @@
-use Rattle.std.proofs.Common.{◌≡◌, ◌+◌, ◌≤◌, List, [], ◌∷◌, length, ap, arith}
-use Rattle.sheet.specs.Sections.{Row, rows, strung, section_bytes}
-use Rattle.writer.specs.Written.{Put}
+use Rattle.std.proofs.Common.{◌+◌, ◌≤◌, [], ◌∷◌, length, ap, arith}
+use Rattle.sheet.specs.Sections.{Row, rows, strung}
 use Rattle.writer.proofs.Lengths.{not_missing, count_is, few_rows}
 use Rattle.writer.proofs.Puts.{put_none, put_more, put_as, item_room, item_more, items_end}
 use Rattle.writer.proofs.write.put_section.Goals as goal

@@ -1,4 +1,4 @@
-use Rattle.std.proofs.Common.{refl, arith}
+use Rattle.std.proofs.Common.{arith}
 use Rattle.writer.proofs.Lengths.{not_missing, length_is, length_few}
 use Rattle.writer.proofs.write.section_length.Goals as goal
 

@@ -1,4 +1,4 @@
-use Rattle.std.proofs.Common.{◌≡◌, ◌+◌, ◌≤◌, [], length, Ok, Err, sym, refl, ap, ◌∙◌, arith}
+use Rattle.std.proofs.Common.{◌≡◌, ◌+◌, ◌≤◌, [], length, Ok, Err, refl, ap, arith}
 use Rattle.sheet.specs.Sections.{section_bytes, bytes_of}
 use Rattle.sheet.proofs.Acceptance.{reads_back}
 use Rattle.sheet.proofs.Shapes.{nine_sections}

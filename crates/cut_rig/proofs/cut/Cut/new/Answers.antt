@@ -1,4 +1,4 @@
-use Rattle.std.proofs.Common.{◌≡◌, ℕ, None, sym, refl, ap, ◌∙◌, subst}
+use Rattle.std.proofs.Common.{ℕ, sym, refl, ap, ◌∙◌, subst}
 use Rattle.cutting.specs.CutSheet.{cut_sheet, cut_fault}
 use Rattle.cutting.specs.Kept.{chosen_in, Smallest}
 use Rattle.cutting.proofs.AcceptedCuts.{cuts_are_accepted}

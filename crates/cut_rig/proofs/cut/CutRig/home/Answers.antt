@@ -1,6 +1,6 @@
 use Rattle.std.proofs.Common.{◌≡◌, sym, ap, ◌∙◌, subst}
 use Rattle.sheet.specs.Sections.{Sheet}
-use Rattle.running.specs.States.{State, start_state}
+use Rattle.running.specs.States.{start_state}
 use Rattle.cutting.specs.CutSheet.{cut_sheet, shown}
 use Rattle.cutting.proofs.StatesAgree.{start_shown}
 use Rattle.cut_rig.specs.Tables.{kept_in, chosen_by, TablesFit}

@@ -1,8 +1,7 @@
-use Rattle.std.proofs.Common.{◌≡◌, Ok, Err, sym, refl, ap, ◌∙◌, subst}
+use Rattle.std.proofs.Common.{◌≡◌, Err, sym, refl, ap, ◌∙◌, subst}
 use Rattle.std.proofs.lemmas.Result.{err_from_is_err_and}
 use Rattle.sheet.specs.Sections.{Sheet}
 use Rattle.running.proofs.Stepped.{refused_stays}
-use Rattle.running.specs.States.{State}
 use Rattle.running.specs.Steps.{replied, step_reply, step_state}
 use Rattle.running.proofs.Replies.{made_when_possible_as, reply_names_the_first_as}
 use Rattle.cutting.specs.CutSheet.{cut_sheet, shown}

@@ -1,5 +1,4 @@
 use Rattle.std.proofs.Common.{sym, ◌∙◌}
-use Rattle.cut_rig.specs.Tables.{kept_in, chosen_by}
 use Rattle.cut_rig.proofs.Shows.{value_gone, value_stays}
 use Rattle.cut_rig.proofs.cut.CutRig.value.Goals as goal
 

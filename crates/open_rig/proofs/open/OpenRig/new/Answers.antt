@@ -1,8 +1,8 @@
-use Rattle.std.proofs.Common.{◌≡◌, length, vec_items, vec_len, unwrap_or, sym, refl, ap, ◌∙◌}
+use Rattle.std.proofs.Common.{◌≡◌, length, vec_items, unwrap_or, sym, ap, ◌∙◌}
 use Rattle.std.proofs.lemmas.List.{length-map}
 use Rattle.reader.specs.Means.{rows_held}
 use Rattle.running.proofs.Stepped.{state_as}
-use Rattle.running.specs.States.{State, start_state}
+use Rattle.running.specs.States.{start_state}
 use Rattle.running.proofs.StatesKept.{start_state_of}
 use Rattle.sheet.specs.Sections.{rows, components, elements}
 use Rattle.open_rig.specs.declared.tables.ComponentRecord.{ComponentRecord}

@@ -1,6 +1,6 @@
-use Rattle.std.proofs.Common.{◌≡◌, sym, refl, ap, ◌∙◌}
+use Rattle.std.proofs.Common.{◌≡◌, ap, ◌∙◌}
 use Rattle.running.proofs.Stepped.{state_as}
-use Rattle.running.specs.States.{State, start_state}
+use Rattle.running.specs.States.{start_state}
 use Rattle.running.proofs.StatesKept.{start_state_of}
 use Rattle.open_rig.specs.Tables.{modes_in, values_in, rows_in, state_in}
 use Rattle.open_rig.proofs.open.OpenRigRig.home.Goals as goal

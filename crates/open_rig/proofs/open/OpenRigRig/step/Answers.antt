@@ -1,8 +1,7 @@
 use Rattle.std.proofs.Common.{◌≡◌, Ok, Err, sym, refl, ap, ◌∙◌}
 use Rattle.std.proofs.lemmas.Result.{err_from_is_err_and}
 use Rattle.running.proofs.Stepped.{refused_stays, made_goes, state_as}
-use Rattle.running.specs.States.{State}
-use Rattle.running.specs.Steps.{parts, moved, settled, made_state, step_state, step_reply}
+use Rattle.running.specs.Steps.{parts, moved, made_state, step_state, step_reply}
 use Rattle.running.proofs.Replies.{made_when_possible_as, reply_names_the_first_as}
 use Rattle.running.proofs.StatesKept.{step_keeps_states}
 use Rattle.sheet.specs.Sections.{rows, settings}

@@ -1,10 +1,10 @@
-use Rattle.std.proofs.Common.{◌≡◌, map, length, vec_items, vec_len, sym, refl, ap, ◌∙◌, arith}
+use Rattle.std.proofs.Common.{◌≡◌, length, vec_items, sym, refl, ap, ◌∙◌}
 use Rattle.std.proofs.lemmas.List.{length-map}
 use Rattle.running.specs.States.{start_state, mode_of, start_mode}
 use Rattle.sheet.specs.Sections.{rows, components}
 use Rattle.sheet.specs.Typed.{component_entry}
 use Rattle.open_rig.specs.declared.tables.ComponentRecord.{ComponentRecord}
-use Rattle.open_rig.specs.Tables.{modes_in, values_in, rows_in}
+use Rattle.open_rig.specs.Tables.{modes_in, rows_in}
 use Rattle.open_rig.proofs.Refills.{refilled_none, refilled_more, refilled_all, refilled_as}
 use Rattle.open_rig.proofs.tables.Tables.reset_modes.Goals as goal
 

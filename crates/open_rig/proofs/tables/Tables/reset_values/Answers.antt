@@ -1,11 +1,11 @@
-use Rattle.std.proofs.Common.{◌≡◌, map, length, pos, vec_items, vec_len, sym, refl, ap, ◌∙◌, arith, w32, to_z, of_z}
+use Rattle.std.proofs.Common.{◌≡◌, length, pos, vec_items, sym, refl, ap, ◌∙◌, w32, to_z, of_z}
 use Rattle.std.proofs.lemmas.List.{length-map}
 use Rattle.std.proofs.lemmas.Int.{to_z-of_z}
 use Rattle.running.specs.States.{start_state, held_of, start_value}
 use Rattle.sheet.specs.Sections.{rows, elements}
 use Rattle.sheet.specs.Typed.{element_entry}
 use Rattle.open_rig.specs.declared.tables.ElementRecord.{ElementRecord}
-use Rattle.open_rig.specs.Tables.{modes_in, values_in, rows_in}
+use Rattle.open_rig.specs.Tables.{values_in, rows_in}
 use Rattle.open_rig.proofs.Refills.{refilled_none, refilled_more, refilled_all, refilled_as}
 use Rattle.open_rig.proofs.tables.Tables.reset_values.Goals as goal
 

@@ -1,11 +1,11 @@
-use Rattle.std.proofs.Common.{◌≡◌, ◌+◌, ◌<◌, List, length, drop, sym, refl, ap, ◌∙◌, arith}
+use Rattle.std.proofs.Common.{◌≡◌, ◌+◌, ◌<◌, length, drop, sym, refl, ap, ◌∙◌, arith}
 use Rattle.running.specs.Steps.{parts}
 use Rattle.sheet.specs.Lookup.{setting_at}
 use Rattle.sheet.specs.Sections.{rows, settings}
 use Rattle.sheet.proofs.Shapes.{count_is}
 use Rattle.view.specs.Checks.{change_by, changed}
 use Rattle.open_rig.specs.Settle.{settled_by}
-use Rattle.open_rig.specs.Tables.{modes_in, values_in, rows_in}
+use Rattle.open_rig.specs.Tables.{values_in, rows_in}
 use Rattle.open_rig.proofs.Refills.{settled_more, settled_end}
 use Rattle.open_rig.proofs.tables.Tables.settle.Goals as goal
 
