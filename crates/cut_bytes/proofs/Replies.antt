@@ -1,5 +1,5 @@
 -- The reply to an input from what the one-call cut answers, with a buffer as long as the sheet.
-use Rattle.std.proofs.Common.{◌≡◌, ℕ, List, [], ◌++◌, length, drop, Ok, Err, Result, sym, refl, ap, ◌∙◌, subst, append-nil, arith}
+use Rattle.std.proofs.Common.{◌≡◌, ℕ, List, ◌++◌, length, Ok, Err, ap, ◌∙◌, append-nil, arith}
 use Rattle.std.proofs.lemmas.List.{drop_all}
 use Rattle.cutting.specs.CutSheet.{IsCutFor}
 use Rattle.cutting.specs.Kept.{chosen_in}

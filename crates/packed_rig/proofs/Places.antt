@@ -1,22 +1,21 @@
 -- Modes and values, by the fields in which they stand.
-use Rattle.std.proofs.Common.{◌≡◌, ℕ, ◌+◌, ◌^◌, ◌<◌, ◌≤◌, Bool, true, false, cond, not, ◌&&◌, leb, List, [], length, get_or, ℤ, pos, negsuc, ◌+ℤ◌, Some, None, sym, refl, ap, ◌∙◌, subst, ap₂, arith, pow_mono, w32, SFits, to_z, of_z}
+use Rattle.std.proofs.Common.{◌≡◌, ℕ, ◌+◌, ◌^◌, ◌<◌, ◌≤◌, true, false, cond, not, ◌&&◌, leb, List, [], length, get_or, ℤ, pos, negsuc, ◌+ℤ◌, Some, sym, ap, ◌∙◌, subst, ap₂, arith, pow_mono, w32, SFits, to_z, of_z}
 use lib.Signed.{le_z}
 use Rattle.std.proofs.lemmas.Int.{ints, to_z-of_z, to_z_pos}
 use Rattle.std.proofs.lemmas.Bool.{and_parts, leb-true, not-true}
 use Rattle.sheet.specs.declared.rows.Element.{Element}
-use Rattle.sheet.specs.declared.rows.Entry.{Entry}
 use Rattle.sheet.specs.declared.rows.Entry.TheVariants.{Holds}
-use Rattle.sheet.specs.Lookup.{component_at, element_at, is}
+use Rattle.sheet.specs.Lookup.{component_at, element_at}
 use Rattle.sheet.specs.Rules.{is_port, has_mode}
 use Rattle.sheet.specs.Sections.{Sheet, rows, components, elements}
 use Rattle.sheet.specs.Typed.{component_entry, element_entry}
 use Rattle.sheet.proofs.Lookups.{is_cases, is_at}
 use Rattle.sheet.proofs.Meaning.{there_inside, held_holds}
 use Rattle.running.specs.States.{held_of, in_range, is_held}
-use Rattle.image.specs.Fields.{above, mode_bits, value_bits, value_number}
+use Rattle.image.specs.Fields.{above, value_bits}
 use Rattle.image.specs.Reading.{widths, numbers_in, value_from, state_from}
 use Rattle.image.proofs.Changes.{mode_width, value_width_at, value_read}
-use Rattle.image.proofs.Entries.{Ranged, ranged_at, mode_has_room, mode_bits_few, value_bits_few, held_standing}
+use Rattle.image.proofs.Entries.{ranged_at, mode_has_room, mode_bits_few, value_bits_few, held_standing}
 use Rattle.image.proofs.Images.{length_widths}
 use Rattle.image.proofs.Layouts.{length_numbers}
 use Rattle.moves.specs.Places.{can_hold}

@@ -1,5 +1,5 @@
 -- What the tables of a packed rig mean.
-use Rattle.std.specs.Prelude.{ℕ, ◌^◌, ◌<◌}
+use Rattle.std.specs.Prelude.{◌^◌, ◌<◌}
 use Rattle.sheet.specs.Sections.{Sheet}
 use Rattle.running.specs.States.{State}
 use Rattle.image.specs.Bits.{number_of}

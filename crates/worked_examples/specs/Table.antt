@@ -1,5 +1,5 @@
 -- The worked examples: what the definitions give, worked out by computing; the kept things are proved smallest.
-use Rattle.std.specs.Prelude.{◌≡◌, ℕ, true, false, List, [], ◌∷◌, length, pos, is_ok, Some, None, Ok, Err, codes, Option, Result}
+use Rattle.std.specs.Prelude.{◌≡◌, ℕ, true, false, List, [], ◌∷◌, length, pos, Some, None, Ok, Err, codes, Option, Result}
 use Rattle.std.specs.Option.{option_map}
 use Rattle.running.specs.declared.kinds.Step.{Step}
 use Rattle.running.specs.declared.kinds.Step.TheVariants.{Alone, Pair}
@@ -9,7 +9,7 @@ use Rattle.running.specs.Steps.{step_reply, step_state, answer_of, value_at}
 use Rattle.running.specs.Values.{plus}
 use Rattle.sheet.specs.declared.refusal.Refusal.{Refusal}
 use Rattle.sheet.specs.Sections.{Sheet, bytes_of}
-use Rattle.sheet.specs.Accept.{number_of, verdict, accept, accepted}
+use Rattle.sheet.specs.Accept.{number_of, verdict, accept}
 use Rattle.cutting.specs.CutSheet.{cut_sheet, no_cut_number, cut_fault}
 use Rattle.cutting.specs.Kept.{chosen_in, Smallest}
 use Rattle.report.specs.Text.{report_of}

@@ -1,9 +1,8 @@
-use Rattle.std.proofs.Common.{◌≡◌, ℕ, Ok, Err, Result, sym, ap, ◌∙◌, subst}
+use Rattle.std.proofs.Common.{ℕ, Err, Result, sym, ap, ◌∙◌, subst}
 use Rattle.std.proofs.lemmas.Result.{err_from_is_err_and}
 use Rattle.cut_rig.specs.Cuts.{rows_above}
 use Rattle.sheet.specs.Sections.{bytes_of}
 use Rattle.cut_bytes.specs.declared.fault.CutFault.{CutFault}
-use Rattle.cut_bytes.specs.declared.fault.CutFault.TheVariants.{Writing}
 use Rattle.cut_bytes.specs.OneCall.{CutOfSheet}
 use Rattle.cut_bytes.proofs.Rooms.{had_room, had_no_room}
 use Rattle.cut_bytes.proofs.one_call.cut_and_write.Goals as goal

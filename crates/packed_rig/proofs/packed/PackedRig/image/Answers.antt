@@ -1,4 +1,4 @@
-use Rattle.std.proofs.Common.{◌≡◌, ℕ, ◌≤◌, List, length, sym, ap, ◌∙◌, subst, arith, rules}
+use Rattle.std.proofs.Common.{◌≡◌, ℕ, List, length, sym, ap, ◌∙◌, subst, arith, rules}
 use Rattle.image.specs.Bits.{number_of, low_bytes}
 use Rattle.image.proofs.Images.{image_of_string}
 use Rattle.image.proofs.Proved.{images_read_back, images_tell_states, lengths_by_sheets}

@@ -1,4 +1,4 @@
-use Rattle.std.proofs.Common.{◌≡◌, ◌^◌, ◌<◌, replicate, sym, subst}
+use Rattle.std.proofs.Common.{◌^◌, ◌<◌, replicate, sym, subst}
 use Rattle.std.proofs.lemmas.Nat.{pow_pos}
 use Rattle.image.specs.Bits.{number_of}
 use Rattle.image.specs.Reading.{widths, total, numbers_in}

@@ -1,4 +1,4 @@
-use Rattle.std.proofs.Common.{◌≡◌, ◌^◌, ◌<◌, get_or, set, sym, refl, ap, ◌∙◌, subst, rules}
+use Rattle.std.proofs.Common.{◌^◌, ◌<◌, get_or, set, sym, refl, ap, ◌∙◌, subst, rules}
 use Rattle.image.specs.Bits.{number_of}
 use Rattle.image.specs.Reading.{widths, numbers_in, state_from}
 use Rattle.image.proofs.Changes.{mode_set}

@@ -1,4 +1,4 @@
-use Rattle.std.proofs.Common.{◌≡◌, ℕ, ◌+◌, ◌^◌, ◌<◌, length, get_or, set, sym, refl, ap, ◌∙◌, subst, ap₂, arith, w32, SFits, rules}
+use Rattle.std.proofs.Common.{◌≡◌, ◌+◌, ◌<◌, length, set, sym, refl, ap, ◌∙◌, subst, ap₂, arith, w32, SFits, rules}
 use lib.Signed.{le_z}
 use Rattle.std.proofs.lemmas.Int.{to_z-of_z}
 use Rattle.std.proofs.lemmas.Bool.{and_parts}
@@ -7,7 +7,7 @@ use Rattle.image.specs.Fields.{above}
 use Rattle.image.specs.Reading.{widths, numbers_in, state_from}
 use Rattle.image.proofs.Changes.{value_set}
 use Rattle.image.proofs.Entries.{ranged_at}
-use Rattle.sheet.specs.Sections.{rows, components, elements}
+use Rattle.sheet.specs.Sections.{components, elements}
 use Rattle.sheet.proofs.Shapes.{count_is, sized}
 use Rattle.packed_rig.specs.Tables.{rows_in}
 use Rattle.packed_rig.proofs.Places.{field_of_value, value_place, numbers_long, below_most}

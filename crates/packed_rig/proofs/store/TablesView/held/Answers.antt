@@ -1,4 +1,4 @@
-use Rattle.std.proofs.Common.{◌≡◌, ℕ, ◌+◌, ◌^◌, ◌<◌, length, get_or, pos, ◌+ℤ◌, sym, ap, ◌∙◌, subst, ap₂, arith, w32, SFits, rules}
+use Rattle.std.proofs.Common.{◌≡◌, ◌+◌, ◌<◌, length, get_or, pos, ◌+ℤ◌, sym, ap, ◌∙◌, subst, arith, w32, SFits, rules}
 use Rattle.image.specs.Bits.{number_of}
 use Rattle.image.specs.Reading.{widths, numbers_in}
 use Rattle.image.proofs.Images.{length_widths}

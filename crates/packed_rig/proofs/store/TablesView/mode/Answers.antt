@@ -1,8 +1,8 @@
-use Rattle.std.proofs.Common.{◌≡◌, ℕ, ◌<◌, length, sym, ◌∙◌, subst, arith, rules}
+use Rattle.std.proofs.Common.{◌<◌, sym, ◌∙◌, subst, arith, rules}
 use Rattle.image.specs.Bits.{number_of}
 use Rattle.image.specs.Reading.{widths, numbers_in}
 use Rattle.image.proofs.Changes.{mode_read, mode_past}
-use Rattle.sheet.specs.Sections.{rows, components}
+use Rattle.sheet.specs.Sections.{components}
 use Rattle.sheet.proofs.Shapes.{count_is}
 use Rattle.packed_rig.specs.Tables.{rows_in}
 use Rattle.packed_rig.proofs.Places.{field_of_mode, mode_bits_small, numbers_long, small_mode}
