@@ -12,7 +12,7 @@ use Rattle.sheet.proofs.Tables.{Agrees, cell_same}
 use Rattle.running.specs.declared.kinds.Worth.{Worth}
 use Rattle.running.specs.States.{State, mode_of}
 use Rattle.running.specs.Values.{nothing, evaluated_if, node_cell, node_over}
-use Rattle.running.proofs.Nodes.{evaluated_same}
+use Rattle.running.proofs.SameNodes.{evaluated_same}
 use Rattle.cutting.specs.declared.kinds.Thing.TheVariants.{Element as KeptElement, Mode as KeptMode}
 use Rattle.cutting.specs.CutSheet.{is_used, cut_sheet}
 use Rattle.cutting.specs.Kept.{Kept, Chosen}

@@ -146,7 +146,7 @@ module _ (s : Sheet) (w : State) where
     flow_node_same : (e i : ℕ) (f : Flow) → e < length (rows s elements) → there flow_entry (rows s flows) i ≡ Some f → f.port ≡ e → node_over s w (before e) f.node ≡ node_value s w f.node
     flow_node_same e i f l h p =
         let r = ((keeps_the_rules s a).flows_right.passes i f h).rests_right in
-        node_over_same w (before e) (values s w) e (λ d b. before_same e d l b) s a f.node
+        node_over_same w (before e) (values s w) e (λ d b. before_same e d l b) s f.node
         (ap (λ k. rests s (ElementFrom k) f.node) (sym p) ∙ not-true (rests s (ElementFrom f.port) f.node) r)
 
     -- a flow leads to a port

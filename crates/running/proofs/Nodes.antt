@@ -1,25 +1,23 @@
 -- What nodes give: the law of each kind, and which elements it depends on.
-use Rattle.std.proofs.Common.{◌≡◌, ℕ, ◌<◌, ◌≤◌, Bool, true, false, not, ◌&&◌, eqb, ltb, List, [], ◌∷◌, get_or, ℤ, pos, Some, None, Option, sym, refl, ap, ◌∙◌, ⊎_elim}
+use Rattle.std.proofs.Common.{◌≡◌, ℕ, zero, suc, ◌<◌, ◌≤◌, Bool, true, false, not, ◌&&◌, ◌||◌, ltb, List, [], ◌∷◌, get_or, ℤ, pos, Some, None, Option, sym, refl, ap, ◌∙◌, ⊎_elim, arith}
 use lib.Signed.{lt_z}
-use Rattle.std.proofs.lemmas.Bool.{true≢false, and_parts, ltb-true, le-leb, cases_lt}
+use Rattle.std.proofs.lemmas.Bool.{and_parts, or_parts, ltb-true, leb-false, cases_lt}
 use Rattle.sheet.specs.declared.rows.Node.{Node}
 use Rattle.sheet.specs.declared.rows.Node.TheVariants.{Constant, Element as Reading, Sum, Difference, True, Equal, Less, Not, And, InMode}
 use Rattle.sheet.specs.declared.rows.Target.TheVariants.{ElementFrom}
 use Rattle.sheet.specs.Accept.{accepted}
-use Rattle.sheet.specs.Lookup.{node_at}
-use Rattle.sheet.specs.Resting.{operands, hits, among, rests}
+use Rattle.sheet.specs.Lookup.{node_at, is}
+use Rattle.sheet.specs.Resting.{operands, hits, any_marked, mark, marks, rests}
 use Rattle.sheet.specs.Rules.{node_names, value_node, condition_node}
-use Rattle.sheet.specs.Sections.{Sheet}
+use Rattle.sheet.specs.Sections.{Sheet, rows, nodes}
 use Rattle.sheet.specs.Tables.{grow}
 use Rattle.sheet.proofs.Meaning.{keeps_the_rules}
-use Rattle.sheet.proofs.Rested.{among_first, among_second, rests_hit, rests_through}
-use Rattle.sheet.proofs.Tables.{grow_at, Agrees, cell_same}
+use Rattle.sheet.proofs.Tables.{grow_at, grow_past}
 use Rattle.running.specs.declared.kinds.Worth.{Worth}
 use Rattle.running.specs.declared.kinds.Worth.TheVariants.{Number, Truth}
-use Rattle.running.specs.States.{State, mode_of}
+use Rattle.running.specs.States.{State}
 use Rattle.running.specs.Values.{plus, minus, same_number, number_in, truth_in, nothing, evaluated, evaluated_if, node_cell, node_over, values, node_value}
 use Rattle.running.specs.Laws.{NodeLaws}
-use Rattle.running.proofs.Finds.{not_passed}
 
 -- ---- the law of each kind
 
@@ -63,48 +61,51 @@ module _ (s : Sheet) (w : State) (a : accepted s ≡ true) where
         no_node = λ n e. node_is n None e;
       }
 
--- ---- a node gives the same where what it names and its operands do
-
-module _ (v w : State) (xs ys : List ℤ) (t u : List Worth) where
-  two_same : (a b : ℕ) → ((o : ℕ) → among o (a ∷ b ∷ []) ≡ true → get_or t o nothing ≡ get_or u o nothing) → (f : Worth → Worth → Worth) → f (get_or t a nothing) (get_or t b nothing) ≡ f (get_or u a nothing) (get_or u b nothing)
-  two_same a b same f = ap (λ x. f x (get_or t b nothing)) (same a (among_first a (b ∷ []))) ∙ ap (f (get_or u a nothing)) (same b (among_second a b))
-
-  pub evaluated_same : (x : Node) → ((e : ℕ) → x ≡ Reading e → get_or xs e (pos 0) ≡ get_or ys e (pos 0)) → ((c m : ℕ) → x ≡ InMode c m → eqb (mode_of v c) m ≡ eqb (mode_of w c) m) → ((o : ℕ) → among o (operands x) ≡ true → get_or t o nothing ≡ get_or u o nothing) → evaluated v xs t x ≡ evaluated w ys u x
-  evaluated_same (Constant z) he hm ho = refl
-  evaluated_same (Reading e) he hm ho = ap Number (he e refl)
-  evaluated_same (Sum a b) he hm ho = two_same a b ho (λ x y. Number (plus (number_in x) (number_in y)))
-  evaluated_same (Difference a b) he hm ho = two_same a b ho (λ x y. Number (minus (number_in x) (number_in y)))
-  evaluated_same True he hm ho = refl
-  evaluated_same (Equal a b) he hm ho = two_same a b ho (λ x y. Truth (same_number (number_in x) (number_in y)))
-  evaluated_same (Less a b) he hm ho = two_same a b ho (λ x y. Truth (lt_z (number_in x) (number_in y)))
-  evaluated_same (Not a) he hm ho = ap (λ x. Truth (not (truth_in x))) (ho a (among_first a []))
-  evaluated_same (And a b) he hm ho = two_same a b ho (λ x y. Truth (truth_in x && truth_in y))
-  evaluated_same (InMode c m) he hm ho = ap Truth (hm c m refl)
-
 -- ---- a node that rests on no element from e on gives the same over values that agree below e
 
-module _ (w : State) (vs us : List ℤ) (e : ℕ) (agree : (d : ℕ) → d < e → get_or vs d (pos 0) ≡ get_or us d (pos 0)) (s : Sheet) (a : accepted s ≡ true) where
-  abbrev RestsBelow : ℕ → Type 0
-  RestsBelow n = rests s (ElementFrom e) n ≡ false
+module _ (w : State) (vs us : List ℤ) (e : ℕ) (agree : (d : ℕ) → d < e → get_or vs d (pos 0) ≡ get_or us d (pos 0)) where
+  -- a node that is not marked, over tables that agree on the nodes that are not marked
+  module _ (ms : List Bool) (t u : List Worth) (same : (o : ℕ) → get_or ms o false ≡ false → get_or t o nothing ≡ get_or u o nothing) where
+    two_same : (f : Worth → Worth → Worth) (a b : ℕ) → any_marked ms (a ∷ b ∷ []) ≡ false → f (get_or t a nothing) (get_or t b nothing) ≡ f (get_or u a nothing) (get_or u b nothing)
+    two_same f a b h =
+        let p = or_parts (get_or ms a false) (get_or ms b false || false) h in
+        let q = or_parts (get_or ms b false) false p.1 in
+        ap (λ x. f x (get_or t b nothing)) (same a p.0) ∙ ap (f (get_or u a nothing)) (same b q.0)
 
-  module _ (n : ℕ) (x : Node) (stands : node_at s n ≡ Some x) (h : RestsBelow n) where
-    named_below : (d : ℕ) → x ≡ Reading d → d < e
-    named_below d q =
+    evaluated_same : (n : ℕ) (x : Node) → hits (ElementFrom e) n x ≡ false → any_marked ms (operands x) ≡ false → evaluated w vs t x ≡ evaluated w us u x
+    evaluated_same n (Constant z) h k = refl
+    evaluated_same n (Reading d) h k = ap Number (agree d (leb-false e d h))
+    evaluated_same n (Sum a b) h k = two_same (λ x y. Number (plus (number_in x) (number_in y))) a b k
+    evaluated_same n (Difference a b) h k = two_same (λ x y. Number (minus (number_in x) (number_in y))) a b k
+    evaluated_same n True h k = refl
+    evaluated_same n (Equal a b) h k = two_same (λ x y. Truth (same_number (number_in x) (number_in y))) a b k
+    evaluated_same n (Less a b) h k = two_same (λ x y. Truth (lt_z (number_in x) (number_in y))) a b k
+    evaluated_same n (Not a) h k = ap (λ x. Truth (not (truth_in x))) (same a (or_parts (get_or ms a false) false k).0)
+    evaluated_same n (And a b) h k = two_same (λ x y. Truth (truth_in x && truth_in y)) a b k
+    evaluated_same n (InMode c m) h k = refl
+
+    evaluated_if_same : (n : ℕ) (o : Option Node) → is o (λ x. hits (ElementFrom e) n x || any_marked ms (operands x)) ≡ false → evaluated_if w vs t o ≡ evaluated_if w us u o
+    evaluated_if_same n None h = refl
+    evaluated_if_same n (Some x) h = let p = or_parts (hits (ElementFrom e) n x) (any_marked ms (operands x)) h in evaluated_same n x p.0 p.1
+
+  module _ (s : Sheet) where
+    -- the tables of the nodes before n agree on those that are not marked
+    tables_same : (n : ℕ) → ((o : ℕ) → o < n → rests s (ElementFrom e) o ≡ false → node_over s w vs o ≡ node_over s w us o) → (o : ℕ) → get_or (marks (rows s nodes) (ElementFrom e) n) o false ≡ false → get_or (grow (node_cell s w vs) n) o nothing ≡ get_or (grow (node_cell s w us) n) o nothing
+    tables_same n before o h =
         ⊎_elim
-        (λ (l : d < e). l)
-        (λ (l : e ≤ d). absurd (true≢false (sym (rests_hit s a (ElementFrom e) n x stands (ap (hits (ElementFrom e) n) q ∙ le-leb e d l)) ∙ h)))
-        (cases_lt d e)
+        (λ (l : o < n).
+        grow_at (node_cell s w vs) n o nothing l
+        ∙ before o l (sym (grow_at (mark (rows s nodes) (ElementFrom e)) n o false l) ∙ h)
+        ∙ sym (grow_at (node_cell s w us) n o nothing l))
+        (λ (l : n ≤ o). grow_past (node_cell s w vs) n o nothing l ∙ sym (grow_past (node_cell s w us) n o nothing l))
+        (cases_lt o n)
 
-    operand_rests_below : (o : ℕ) → among o (operands x) ≡ true → RestsBelow o
-    operand_rests_below o m = not_passed (rests s (ElementFrom e) o) (λ r. true≢false (sym (rests_through s a (ElementFrom e) n o x stands m r) ∙ h))
+    over_same : (k n : ℕ) → n < k → rests s (ElementFrom e) n ≡ false → node_over s w vs n ≡ node_over s w us n
+    over_same zero n l h = absurd (omega arith)
+    over_same (suc k) n l h =
+        evaluated_if_same (marks (rows s nodes) (ElementFrom e) n) (grow (node_cell s w vs) n) (grow (node_cell s w us) n)
+        (tables_same n (λ o b. over_same k o (omega arith)))
+        n (node_at s n) h
 
-  node_by : (n : ℕ) (o : Option Node) → node_at s n ≡ o → RestsBelow n → Agrees RestsBelow (node_cell s w vs) (node_cell s w us) nothing n → evaluated_if w vs (grow (node_cell s w vs) n) o ≡ evaluated_if w us (grow (node_cell s w us) n) o
-  node_by n None stands h same = refl
-  node_by n (Some x) stands h same =
-      evaluated_same w w vs us (grow (node_cell s w vs) n) (grow (node_cell s w us) n) x
-      (λ d q. agree d (named_below n x stands h d q))
-      (λ c m q. refl)
-      (λ o m. same o (operand_rests_below n x stands h o m))
-
-  pub node_over_same : (n : ℕ) → rests s (ElementFrom e) n ≡ false → node_over s w vs n ≡ node_over s w us n
-  node_over_same n h = cell_same RestsBelow (node_cell s w vs) (node_cell s w us) nothing (λ n h same. node_by n (node_at s n) refl h same) n h
+    pub node_over_same : (n : ℕ) → rests s (ElementFrom e) n ≡ false → node_over s w vs n ≡ node_over s w us n
+    node_over_same n h = over_same (suc n) n (omega arith) h
