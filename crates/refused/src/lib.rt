@@ -1,19 +1,28 @@
 // The words of a refusal.
 #![tactic(auto)]
 
-ghost use Rattle.std.specs.Prelude.{◌≡◌, IfOk, string_bytes};
+ghost use Rattle.std.specs.Prelude.{Some};
 ghost use Rattle.refused.specs.Line.{refused_at};
 
-use std::alloc::{AllocError, Global};
+use std::fmt;
 
-// The line of a refusal: its number and the two numbers that say where, with no line feed.
-pub fn refused_line(
-    heap: Global,
-    number: u8,
-    first: usize,
-    second: usize,
-) -> Result<String, AllocError>
-    ensures { IfOk result (λ t. string_bytes t ≡ refused_at number first second) }
-{
-    format!(in heap; "refused {number} {first} {second}")
+// A refusal as it is told: its number, and the two numbers that say where.
+#[derive(Clone, Copy, PartialEq, Eq, Debug)]
+pub struct Refused {
+    pub number: u8,
+    pub first: usize,
+    pub second: usize,
+}
+
+impl fmt::Display for Refused {
+    ghost output = { λ r. Some (refused_at r.number r.first r.second) };
+
+    fn fmt<W: fmt::Write>(&self, f: &mut fmt::Formatter<W>) -> fmt::Result {
+        let Refused {
+            number,
+            first,
+            second,
+        } = *self;
+        write!(f, "refused {number} {first} {second}")
+    }
 }
