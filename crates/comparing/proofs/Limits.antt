@@ -1,7 +1,7 @@
 -- What is tried of each number below a limit holds of each number, where nothing stands past the limit.
 use Rattle.std.proofs.Common.{◌≡◌, ℕ, ◌+◌, ◌<◌, ◌≤◌, true, get_or, is_some, sym, ap, ◌∙◌, ⊎_elim, arith}
 use Rattle.std.proofs.lemmas.Bool.{false≢true, cases_lt}
-use Rattle.sheet.specs.declared.rows.Entry.{Entry}
+use Rattle.sheet.specs.Entry.{Entry}
 use Rattle.sheet.specs.Accept.{accepted}
 use Rattle.sheet.specs.Lookup.{there}
 use Rattle.sheet.specs.Sections.{Row, Sheet, rows, shape, shapes}

@@ -5,7 +5,7 @@ use Rattle.std.proofs.lemmas.Option.{slice_get-get_or, slice_get_past}
 use Rattle.std.proofs.lemmas.Bool.{cases_lt}
 use Rattle.std.specs.Option.{option_map}
 use Rattle.std.specs.List.{slice_get}
-use Rattle.sheet.specs.declared.rows.Entry.{Entry}
+use Rattle.sheet.specs.Entry.{Entry}
 use Rattle.sheet.specs.Accept.{accepted}
 use Rattle.sheet.specs.Cells.{count_of, byte_of}
 use Rattle.sheet.specs.Lookup.{held, read_by, there, is}

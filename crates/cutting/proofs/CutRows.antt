@@ -1,12 +1,11 @@
 -- The rows of a cut sheet as typed values.
-use Rattle.std.proofs.Common.{◌≡◌, ℕ, ◌<◌, ◌≤◌, Bool, true, false, cond, ◌&&◌, leb, List, [], length, get_or, Some, None, Option, sym, refl, ap, ◌∙◌, ⊎_elim, arith}
+use Rattle.std.proofs.Common.{◌≡◌, ℕ, ◌<◌, ◌≤◌, Bool, true, false, cond, ◌&&◌, leb, List, [], length, get_or, Some, None, Option, sym, refl, ap, ◌∙◌, ⊎_elim, arith, Err, Ok}
 use Rattle.std.proofs.lemmas.Option.{slice_get-get_or, slice_get_past}
 use Rattle.std.proofs.lemmas.Bool.{and_parts, and_from, eqb-true, le-leb, cases_lt, cond_both}
 use Rattle.std.specs.Option.{option_map}
 use Rattle.std.specs.List.{slice_get}
+use Rattle.sheet.specs.Entry.{Entry, malformed}
 use Rattle.sheet.specs.declared.rows.Component.{Component}
-use Rattle.sheet.specs.declared.rows.Entry.{Entry}
-use Rattle.sheet.specs.declared.rows.Entry.TheVariants.{Faulty, Holds}
 use Rattle.sheet.specs.declared.rows.Transition.{Transition}
 use Rattle.sheet.specs.Accept.{accepted}
 use Rattle.sheet.specs.Lookup.{held, read_by, there, is, component_at, element_at, event_at, node_at, flow_at, connection_at, transition_at, setting_at, question_at}
@@ -105,16 +104,16 @@ right_shown n m b h =
     let q = and_parts (leb n 15) (leb m n) p.1 in
     cond_both b m 0 (λ j. right_component n j ≡ true) (λ _. h) (λ _. and_from (leb 1 n) (leb n 15 && leb 0 n) p.0 (and_from (leb n 15) (leb 0 n) q.0 (le-leb 0 n (omega arith))))
 
-holds_unless_faulty : {X : Type 0} (b : Bool) (x : X) → (holds_if b x ≡ Faulty → ⊥) → b ≡ true
+holds_unless_faulty : {X : Type 0} (b : Bool) (x : X) → (holds_if b x ≡ Err malformed → ⊥) → b ≡ true
 holds_unless_faulty true x h = refl
 holds_unless_faulty false x h = absurd (h refl)
 
-module _ (k : Kept) (c : ℕ) (r : Row) (h : component_entry r ≡ Faulty → ⊥) where
+module _ (k : Kept) (c : ℕ) (r : Row) (h : component_entry r ≡ Err malformed → ⊥) where
   bytes_right : right_component (at r 0) (at r 1) ≡ true
   bytes_right = holds_unless_faulty (right_component (at r 0) (at r 1)) (component_in r) h
 
   -- a component is never blank, and stays one
-  pub component_holds : component_entry (cut_component k c r) ≡ Holds (with_start k c (component_in r))
+  pub component_holds : component_entry (cut_component k c r) ≡ Ok (Some (with_start k c (component_in r)))
   component_holds = ap (λ b. holds_if b (with_start k c (component_in r))) (right_shown (at r 0) (at r 1) (k (KeptMode c (at r 1))) bytes_right)
 
   held_component : held (component_entry (cut_component k c r)) ≡ option_map (with_start k c) (held (component_entry r))

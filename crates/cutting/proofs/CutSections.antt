@@ -1,9 +1,8 @@
 -- Sections of a cut sheet keep the rules where the whole sections do and what remains passes its checks.
-use Rattle.std.proofs.Common.{◌≡◌, ℕ, zero, suc, ◌<◌, Bool, true, false, cond, not, List, [], length, get_or, Some, sym, refl, ap, ◌∙◌, subst, ⊎_elim, arith}
+use Rattle.std.proofs.Common.{◌≡◌, ℕ, zero, suc, ◌<◌, Bool, true, false, cond, not, List, [], length, get_or, Some, sym, refl, ap, ◌∙◌, subst, ⊎_elim, arith, Err, None, Ok}
 use Rattle.std.proofs.lemmas.Option.{slice_get-get_or}
 use Rattle.std.proofs.lemmas.Bool.{false≢true, or_cases, or_left, or_right}
-use Rattle.sheet.specs.declared.rows.Entry.{Entry}
-use Rattle.sheet.specs.declared.rows.Entry.TheVariants.{Blank, Faulty}
+use Rattle.sheet.specs.Entry.{Entry, malformed}
 use Rattle.sheet.specs.declared.rows.Transition.{Transition}
 use Rattle.sheet.specs.Laws.{Passes, Right}
 use Rattle.sheet.specs.Lookup.{held, read_by, there, is, transition_at}
@@ -55,13 +54,13 @@ row_numbered f rs i l =
     (inside, get_or_inside f rs i [] [] inside)
 
 -- a row that stays or becomes blank is not faulty
-either_not_faulty : {X : Type 0} (entry : Row → Entry X) (blank : Row) → entry blank ≡ Blank → (b : Bool) (r : Row) → (b ≡ true → entry r ≡ Faulty → ⊥) → entry (cond b r blank) ≡ Faulty → ⊥
+either_not_faulty : {X : Type 0} (entry : Row → Entry X) (blank : Row) → entry blank ≡ Ok None → (b : Bool) (r : Row) → (b ≡ true → entry r ≡ Err malformed → ⊥) → entry (cond b r blank) ≡ Err malformed → ⊥
 either_not_faulty entry blank e true r n h = n refl h
 either_not_faulty entry blank e false r n h = let z : ◌≡◌ {A = ℕ} 0 1 = cc in omega arith
 
 -- ---- a section whose rows stay or become blank
 
-module _ {X : Type 0} (j : ℕ) (entry : Row → Entry X) (blank : entry (blank_row j) ≡ Blank) (test : ℕ → X → Bool) (before after : ℕ → X → Checks) (rs : List Row) where
+module _ {X : Type 0} (j : ℕ) (entry : Row → Entry X) (blank : entry (blank_row j) ≡ Ok None) (test : ℕ → X → Bool) (before after : ℕ → X → Checks) (rs : List Row) where
   pub section_stays : ((i : ℕ) (x : X) → test i x ≡ true → there entry rs i ≡ Some x → Passes (before i x) → Passes (after i x)) → Right entry before rs → Right entry after (numbered (λ n. stays_if j entry (test n)) rs)
   section_stays pass right =
       record {
@@ -89,7 +88,7 @@ module _ (k : Kept) (chosen : Chosen) (s : Sheet) where
 
   module _ (before after : ℕ → Transition → Checks) where
     -- a row that keeps its from mode is a transition
-    kept_not_faulty : (i : ℕ) → i < length (rows s transitions) → is (held (transition_entry (get_or (rows s transitions) i []))) (keeps_from k) ≡ true → transition_entry (get_or (numbered (cut_transition k) (rows s transitions)) i []) ≡ Faulty → ⊥
+    kept_not_faulty : (i : ℕ) → i < length (rows s transitions) → is (held (transition_entry (get_or (rows s transitions) i []))) (keeps_from k) ≡ true → transition_entry (get_or (numbered (cut_transition k) (rows s transitions)) i []) ≡ Err malformed → ⊥
     kept_not_faulty i l y h =
         let q = is_cases (held (transition_entry (get_or (rows s transitions) i []))) (keeps_from k) y in
         let e = transition_stays k chosen s i q.0 (ap (read_by transition_entry) (slice_get-get_or (rows s transitions) i [] l) ∙ q.1) q.2 in

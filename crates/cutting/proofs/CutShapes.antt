@@ -1,7 +1,7 @@
 -- A cut sheet has the shapes of the sections.
 use Rattle.std.proofs.Common.{◌≡◌, ℕ, zero, suc, ◌+◌, ◌<◌, Bool, true, cond, ◌&&◌, eqb, ltb, leb, List, [], ◌∷◌, length, get_or, refl, ap, ◌∙◌, arith}
 use Rattle.std.proofs.lemmas.Bool.{and_parts, and_from, cond_both}
-use Rattle.sheet.specs.declared.rows.Entry.{Entry}
+use Rattle.sheet.specs.Entry.{Entry}
 use Rattle.sheet.specs.Lookup.{held, is}
 use Rattle.sheet.specs.Sections.{Row, Sheet, rows, Shape, shape, shapes, bytes, wide, fits_shape, shaped, width_of, components, elements, events, nodes, flows, connections, transitions, settings, questions}
 use Rattle.sheet.specs.Typed.{at, element_entry, event_entry, node_entry, flow_entry, connection_entry, transition_entry, setting_entry, question_entry}

@@ -1,11 +1,10 @@
 -- The start of a cut shows the start of the sheet below, and the cut shows states of the sheet as states of its own.
-use Rattle.std.proofs.Common.{◌≡◌, ℕ, ◌≤◌, Bool, true, false, cond, not, pos, Some, None, Option, sym, refl, ap, ◌∙◌, subst, ⊎_elim, arith}
+use Rattle.std.proofs.Common.{◌≡◌, ℕ, ◌≤◌, Bool, true, false, cond, not, pos, Some, None, Option, sym, refl, ap, ◌∙◌, subst, ⊎_elim, arith, Err, Ok}
 use Rattle.std.proofs.lemmas.Bool.{cases_Bool, cond-true, cond-false, cond_both}
 use Rattle.std.specs.Option.{option_map}
+use Rattle.sheet.specs.Entry.{Entry, malformed}
 use Rattle.sheet.specs.declared.rows.Component.{Component}
 use Rattle.sheet.specs.declared.rows.Element.{Element}
-use Rattle.sheet.specs.declared.rows.Entry.{Entry}
-use Rattle.sheet.specs.declared.rows.Entry.TheVariants.{Blank, Faulty, Holds}
 use Rattle.sheet.specs.Accept.{accepted}
 use Rattle.sheet.specs.Lookup.{held, component_at, element_at, is}
 use Rattle.sheet.specs.Rules.{is_port}
@@ -50,11 +49,11 @@ start_mode_shown k c r =
     ∙ sym (start_if (right_component (at r 0) (shown_mode k c (at r 1))) (at r 0) (shown_mode k c (at r 1)))
 
 start_value_by : (k : Kept) (e : ℕ) (r : Row) (v : Entry Element) → element_entry r ≡ v → shown_value k e (start_value v) ≡ start_value (element_entry (cond (is (held v) (λ x. k (KeptElement e))) r (blank_row elements)))
-start_value_by k e r Blank h = either_same (k (KeptElement e)) (pos 0)
-start_value_by k e r Faulty h = either_same (k (KeptElement e)) (pos 0)
-start_value_by k e r (Holds x) h = by (k (KeptElement e))
+start_value_by k e r (Ok None) h = either_same (k (KeptElement e)) (pos 0)
+start_value_by k e r (Err _) h = either_same (k (KeptElement e)) (pos 0)
+start_value_by k e r (Ok (Some x)) h = by (k (KeptElement e))
   where
-    by : (b : Bool) → cond b (start_value (Holds x)) (pos 0) ≡ start_value (element_entry (cond b r (blank_row elements)))
+    by : (b : Bool) → cond b (start_value (Ok (Some x))) (pos 0) ≡ start_value (element_entry (cond b r (blank_row elements)))
     by true = sym (ap start_value h)
     by false = refl
 

@@ -1,7 +1,7 @@
 -- All that a remaining row or node of a cut sheet rests on is kept.
 use Rattle.std.proofs.Common.{◌≡◌, ℕ, true, ◌||◌, List, Some, ap, ◌∙◌, subst, ⊎_elim}
 use Rattle.std.proofs.lemmas.Bool.{and_parts, or_cases, or_left}
-use Rattle.sheet.specs.declared.rows.Entry.{Entry}
+use Rattle.sheet.specs.Entry.{Entry}
 use Rattle.sheet.specs.declared.rows.Flow.{Flow}
 use Rattle.sheet.specs.declared.rows.Node.{Node}
 use Rattle.sheet.specs.declared.rows.Question.{Question}

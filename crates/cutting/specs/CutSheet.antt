@@ -1,7 +1,7 @@
 -- The sheet and the state that a cut shows, and when there is none.
 use Rattle.std.specs.Prelude.{◌≡◌, ℕ, Bool, cond, not, ◌&&◌, ◌||◌, List, [], ◌∷◌, replicate, ℤ, pos, is_some, ◌==◌}
+use Rattle.sheet.specs.Entry.{Entry}
 use Rattle.sheet.specs.declared.rows.Connection.{Connection}
-use Rattle.sheet.specs.declared.rows.Entry.{Entry}
 use Rattle.sheet.specs.declared.rows.Setting.{Setting}
 use Rattle.sheet.specs.declared.rows.Target.TheVariants.{Node as ThatNode}
 use Rattle.sheet.specs.Lookup.{held, is, transition_at, question_at}

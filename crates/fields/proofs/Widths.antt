@@ -1,9 +1,8 @@
 -- The widths of fields, by what is there.
-use Rattle.std.proofs.Common.{◌≡◌, ℕ, ◌-◌, ◌<◌, ◌≤◌, [], length, get_or, sym, refl, ap, ◌∙◌, arith}
+use Rattle.std.proofs.Common.{◌≡◌, ℕ, ◌-◌, ◌<◌, ◌≤◌, [], length, get_or, sym, refl, ap, ◌∙◌, arith, Err, None, Ok, Some}
+use Rattle.sheet.specs.Entry.{Entry, malformed}
 use Rattle.sheet.specs.declared.rows.Component.{Component}
 use Rattle.sheet.specs.declared.rows.Element.{Element}
-use Rattle.sheet.specs.declared.rows.Entry.{Entry}
-use Rattle.sheet.specs.declared.rows.Entry.TheVariants.{Blank, Faulty, Holds}
 use Rattle.sheet.specs.Lookup.{held, component_at, element_at}
 use Rattle.sheet.specs.Sections.{Sheet, rows, components, elements}
 use Rattle.sheet.specs.Typed.{component_entry, element_entry}
@@ -16,14 +15,14 @@ use Rattle.image.proofs.Images.{length_widths}
 use Rattle.fields.specs.Held.{bits_of_mode, bits_of_value}
 
 held_mode : (e : Entry Component) → mode_bits e ≡ bits_of_mode (held e)
-held_mode Blank = refl
-held_mode Faulty = refl
-held_mode (Holds x) = refl
+held_mode (Ok None) = refl
+held_mode (Err _) = refl
+held_mode (Ok (Some x)) = refl
 
 held_value : (e : Entry Element) → value_bits e ≡ bits_of_value (held e)
-held_value Blank = refl
-held_value Faulty = refl
-held_value (Holds x) = refl
+held_value (Ok None) = refl
+held_value (Err _) = refl
+held_value (Ok (Some x)) = refl
 
 -- the width of a mode's field, and of a value's
 pub record Width (s : Sheet) (i r : ℕ) : Type 0 where

@@ -1,12 +1,11 @@
 -- A field read, or set: the mode or the value that it stands for.
-use Rattle.std.proofs.Common.{◌≡◌, ℕ, zero, suc, ◌+◌, ◌-◌, ◌<◌, ◌≤◌, Bool, true, false, cond, not, List, [], ◌∷◌, map, length, get_or, take, drop, set, ℤ, pos, ◌+ℤ◌, sym, refl, ap, ◌∙◌, ap₂, ⊎_elim, suc-le-suc, arith}
+use Rattle.std.proofs.Common.{◌≡◌, ℕ, zero, suc, ◌+◌, ◌-◌, ◌<◌, ◌≤◌, Bool, true, false, cond, not, List, [], ◌∷◌, map, length, get_or, take, drop, set, ℤ, pos, ◌+ℤ◌, sym, refl, ap, ◌∙◌, ap₂, ⊎_elim, suc-le-suc, arith, Err, None, Ok, Some}
 use lib.Lanes.{zip2}
 use Rattle.std.proofs.lemmas.List.{length-map, length-take-le, length-drop, get_or-map, get_or_append_left, get_or-append_right, get_or-take, get_or-drop, get_or_past, drop-set-lt, drop-set-add, take-set-le}
 use Rattle.std.proofs.lemmas.Simd.{get_or-zip2}
 use Rattle.std.proofs.lemmas.Bool.{true≢false, cases_lt}
+use Rattle.sheet.specs.Entry.{Entry, malformed}
 use Rattle.sheet.specs.declared.rows.Element.{Element}
-use Rattle.sheet.specs.declared.rows.Entry.{Entry}
-use Rattle.sheet.specs.declared.rows.Entry.TheVariants.{Blank, Faulty, Holds}
 use Rattle.sheet.specs.Lookup.{held, is}
 use Rattle.sheet.specs.Rules.{is_port}
 use Rattle.sheet.specs.Sections.{Row, Sheet, rows, components, elements}
@@ -19,9 +18,9 @@ use Rattle.image.proofs.Images.{placed_from}
 
 -- a field without a held element stands for 0
 unheld : (e : Entry Element) (n : ℕ) → is (held e) (λ x. not (is_port x)) ≡ false → value_from e n ≡ pos 0
-unheld Blank n h = refl
-unheld Faulty n h = refl
-unheld (Holds x) n h = by_kind (is_port x) h
+unheld (Ok None) n h = refl
+unheld (Err _) n h = refl
+unheld (Ok (Some x)) n h = by_kind (is_port x) h
   where
     by_kind : (b : Bool) → not b ≡ false → cond b (pos 0) (x.lowest +ℤ pos n) ≡ pos 0
     by_kind true h = refl

@@ -1,13 +1,12 @@
 -- What the rows of components and elements say of their bits.
-use Rattle.std.proofs.Common.{◌≡◌, ℕ, suc, ◌+◌, ◌-◌, ◌*◌, ◌^◌, ◌<◌, ◌≤◌, Bool, true, false, cond, not, ◌&&◌, eqb, ltb, leb, [], get_or, ℤ, pos, negsuc, ◌+ℤ◌, Some, sym, refl, ap, subst, ⊎_elim, arith}
+use Rattle.std.proofs.Common.{◌≡◌, ℕ, suc, ◌+◌, ◌-◌, ◌*◌, ◌^◌, ◌<◌, ◌≤◌, Bool, true, false, cond, not, ◌&&◌, eqb, ltb, leb, [], get_or, ℤ, pos, negsuc, ◌+ℤ◌, Some, sym, refl, ap, subst, ⊎_elim, arith, Err, None, Ok}
 use lib.Signed.{le_z}
 use mir.Val.{sel}
 use Rattle.std.proofs.lemmas.Int.{ints}
 use Rattle.std.proofs.lemmas.Bool.{and_parts, leb-true, ltb-true, ltb-false, not_from_true, cases_Bool}
+use Rattle.sheet.specs.Entry.{Entry, malformed}
 use Rattle.sheet.specs.declared.rows.Component.{Component}
 use Rattle.sheet.specs.declared.rows.Element.{Element}
-use Rattle.sheet.specs.declared.rows.Entry.{Entry}
-use Rattle.sheet.specs.declared.rows.Entry.TheVariants.{Blank, Faulty, Holds}
 use Rattle.sheet.specs.declared.rows.Kind.{Kind}
 use Rattle.sheet.specs.declared.rows.Kind.TheVariants.{Held, Port}
 use Rattle.sheet.specs.Lookup.{held, element_at, is}
@@ -71,12 +70,12 @@ element_ranged r x e =
     let as_port = element_of Port c (number (at r 2) (at r 3)) (number (at r 4) (at r 5)) v in
     ⊎_elim
     (λ (p : held as_held ≡ Some x). element_of_ranged Held c (at r 2) (at r 3) (at r 4) (at r 5) v x p)
-    (λ (p : held (cond (eqb (at r 0) 2) as_port Faulty) ≡ Some x).
+    (λ (p : held (cond (eqb (at r 0) 2) as_port (Err malformed)) ≡ Some x).
     ⊎_elim
     (λ (q : held as_port ≡ Some x). element_of_ranged Port c (at r 2) (at r 3) (at r 4) (at r 5) v x q)
-    (λ (q : held {X = Element} Faulty ≡ Some x). no_pass x (sym q))
-    (held_either (eqb (at r 0) 2) as_port Faulty x p))
-    (held_either (eqb (at r 0) 1) as_held (cond (eqb (at r 0) 2) as_port Faulty) x
+    (λ (q : held {X = Element} (Err malformed) ≡ Some x). no_pass x (sym q))
+    (held_either (eqb (at r 0) 2) as_port (Err malformed) x p))
+    (held_either (eqb (at r 0) 1) as_held (cond (eqb (at r 0) 2) as_port (Err malformed)) x
     (held_unless_blank (zeros 8 r) (element_by_kind (at r 0) c (number (at r 2) (at r 3)) (number (at r 4) (at r 5)) v) x e))
 
 pub ranged_at : (s : Sheet) (e : ℕ) (x : Element) → element_at s e ≡ Some x → Ranged x
@@ -92,7 +91,7 @@ module _ (x : Element) (g : Ranged x) where
   inside_below v i = let p = and_parts (le_z x.lowest v) (le_z v x.highest) i in gaps x.lowest v x.highest p.0 p.1
 
 -- a mode of the component has room in its bits
-pub mode_has_room : (r : Row) (x : Component) (m : ℕ) → component_entry r ≡ Holds x → m ≤ x.modes → m < 2 ^ mode_bits (component_entry r)
+pub mode_has_room : (r : Row) (x : Component) (m : ℕ) → component_entry r ≡ Ok (Some x) → m ≤ x.modes → m < 2 ^ mode_bits (component_entry r)
 mode_has_room r x m e l =
     let few = few_modes r x (ap held e) in
     let room : m < 2 ^ bit_length x.modes = omega (arith, l, few, holds x.modes (omega (arith, few))) in
@@ -103,7 +102,7 @@ pub record Standing (e : Entry Element) (v : ℤ) : Type 0 where
   pub room : value_number e v < 2 ^ value_bits e
   pub back : value_from e (value_number e v) ≡ v
 
-standing_held : (x : Element) (v : ℤ) → Ranged x → in_range x v ≡ true → is_port x ≡ false → Standing (Holds x) v
+standing_held : (x : Element) (v : ℤ) → Ranged x → in_range x v ≡ true → is_port x ≡ false → Standing (Ok (Some x)) v
 standing_held x v g i p =
     let inside = and_parts (le_z x.lowest v) (le_z v x.highest) i in
     let span = above x.lowest x.highest in
@@ -114,13 +113,13 @@ standing_held x v g i p =
       back = rw p (back_up x.lowest v inside.0);
     }
 
-standing_port : (x : Element) (v : ℤ) → is_port x ≡ true → v ≡ pos 0 → Standing (Holds x) v
+standing_port : (x : Element) (v : ℤ) → is_port x ≡ true → v ≡ pos 0 → Standing (Ok (Some x)) v
 standing_port x v p z = record { room = rw p (omega arith); back = rw (p, z) refl }
 
 standing_at : (r : Row) (v : ℤ) (e : Entry Element) → element_entry r ≡ e → ((x : Element) → held e ≡ Some x → is_port x ≡ false → in_range x v ≡ true) → (is (held e) (λ x. not (is_port x)) ≡ false → v ≡ pos 0) → Standing e v
-standing_at r v Blank h i z = record { room = omega arith; back = sym (z refl) }
-standing_at r v Faulty h i z = record { room = omega arith; back = sym (z refl) }
-standing_at r v (Holds x) h i z =
+standing_at r v (Ok None) h i z = record { room = omega arith; back = sym (z refl) }
+standing_at r v (Err _) h i z = record { room = omega arith; back = sym (z refl) }
+standing_at r v (Ok (Some x)) h i z =
     ⊎_elim
     (λ (p : is_port x ≡ true). standing_port x v p (z (not_from_true (is_port x) p)))
     (λ (p : is_port x ≡ false). standing_held x v (element_ranged r x (ap held h)) (i x refl p) p)
@@ -131,14 +130,14 @@ pub standing : (r : Row) (v : ℤ) → ((x : Element) → held (element_entry r)
 standing r v i z = standing_at r v (element_entry r) refl i z
 
 -- a value of a held element, by the number that stands for it
-pub held_standing : (r : Row) (x : Element) (v : ℤ) → element_entry r ≡ Holds x → is_port x ≡ false → in_range x v ≡ true → Standing (element_entry r) v × (above x.lowest v ≡ value_number (element_entry r) v)
+pub held_standing : (r : Row) (x : Element) (v : ℤ) → element_entry r ≡ Ok (Some x) → is_port x ≡ false → in_range x v ≡ true → Standing (element_entry r) v × (above x.lowest v ≡ value_number (element_entry r) v)
 held_standing r x v h p i = (rw h (standing_held x v (element_ranged r x (ap held h)) i p), rw (h, p) refl)
 
 -- a number with room in the field is that of the value that it stands for
 pub number_back : (e : Entry Element) (n : ℕ) → n < 2 ^ value_bits e → value_number e (value_from e n) ≡ n
-number_back Blank n l = omega arith
-number_back Faulty n l = omega arith
-number_back (Holds x) n l = by_kind (is_port x) l
+number_back (Ok None) n l = omega arith
+number_back (Err _) n l = omega arith
+number_back (Ok (Some x)) n l = by_kind (is_port x) l
   where
     by_kind : (b : Bool) → n < 2 ^ cond b 0 (bit_length (above x.lowest x.highest)) → cond b 0 (above x.lowest (cond b (pos 0) (x.lowest +ℤ pos n))) ≡ n
     by_kind true l = omega arith
@@ -147,17 +146,17 @@ number_back (Holds x) n l = by_kind (is_port x) l
 -- ---- the most bits
 
 mode_bits_at : (r : Row) (e : Entry Component) → component_entry r ≡ e → mode_bits e ≤ 4
-mode_bits_at r Blank h = omega arith
-mode_bits_at r Faulty h = omega arith
-mode_bits_at r (Holds x) h = let few = few_modes r x (ap held h) in least x.modes 4 (omega (arith, few)) (omega (arith, few))
+mode_bits_at r (Ok None) h = omega arith
+mode_bits_at r (Err _) h = omega arith
+mode_bits_at r (Ok (Some x)) h = let few = few_modes r x (ap held h) in least x.modes 4 (omega (arith, few)) (omega (arith, few))
 
 pub mode_bits_few : (r : Row) → mode_bits (component_entry r) ≤ 4
 mode_bits_few r = mode_bits_at r (component_entry r) refl
 
 value_bits_at : (r : Row) (e : Entry Element) → element_entry r ≡ e → value_bits e ≤ 16
-value_bits_at r Blank h = omega arith
-value_bits_at r Faulty h = omega arith
-value_bits_at r (Holds x) h =
+value_bits_at r (Ok None) h = omega arith
+value_bits_at r (Err _) h = omega arith
+value_bits_at r (Ok (Some x)) h =
     let small = span_below x (element_ranged r x (ap held h)) in
     elim (is_port x) as (λ b. cond b 0 (bit_length (above x.lowest x.highest)) ≤ 16)
     [ true ↦ omega arith | false ↦ least (above x.lowest x.highest) 16 (omega (arith, small)) small ]

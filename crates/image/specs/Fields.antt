@@ -1,10 +1,9 @@
 -- The image of a state: the fields, one behind the other, lowest bit first, eight bits to a byte.
-use Rattle.std.specs.Prelude.{ℕ, ◌+◌, ◌*◌, ◌^◌, cond, List, [], ◌∷◌, ◌++◌, ℤ, ◌-ℤ◌, unsigned_abs}
+use Rattle.std.specs.Prelude.{ℕ, ◌+◌, ◌*◌, ◌^◌, cond, List, [], ◌∷◌, ◌++◌, ℤ, ◌-ℤ◌, unsigned_abs, Err, None, Ok, Some}
 use Rattle.std.specs.Simd.Lanes.{zip2}
+use Rattle.sheet.specs.Entry.{Entry, malformed}
 use Rattle.sheet.specs.declared.rows.Component.{Component}
 use Rattle.sheet.specs.declared.rows.Element.{Element}
-use Rattle.sheet.specs.declared.rows.Entry.{Entry}
-use Rattle.sheet.specs.declared.rows.Entry.TheVariants.{Blank, Faulty, Holds}
 use Rattle.sheet.specs.Rules.{is_port}
 use Rattle.sheet.specs.Sections.{Row, Sheet, rows, components, elements}
 use Rattle.sheet.specs.Typed.{component_entry, element_entry}
@@ -22,21 +21,21 @@ above low v = unsigned_abs (v -ℤ low)
 
 -- the bits of a component's mode: as many as its number of modes needs
 abbrev pub mode_bits : Entry Component → ℕ
-mode_bits Blank = 0
-mode_bits Faulty = 0
-mode_bits (Holds x) = bit_length x.modes
+mode_bits (Ok None) = 0
+mode_bits (Err _) = 0
+mode_bits (Ok (Some x)) = bit_length x.modes
 
 -- the bits of a held element's value: as many as the span of its range needs; blank rows and ports have none
 abbrev pub value_bits : Entry Element → ℕ
-value_bits Blank = 0
-value_bits Faulty = 0
-value_bits (Holds x) = cond (is_port x) 0 (bit_length (above x.lowest x.highest))
+value_bits (Ok None) = 0
+value_bits (Err _) = 0
+value_bits (Ok (Some x)) = cond (is_port x) 0 (bit_length (above x.lowest x.highest))
 
 -- the number that stands for a held element's value: the value less the lowest
 abbrev pub value_number : Entry Element → ℤ → ℕ
-value_number Blank v = 0
-value_number Faulty v = 0
-value_number (Holds x) v = cond (is_port x) 0 (above x.lowest v)
+value_number (Ok None) v = 0
+value_number (Err _) v = 0
+value_number (Ok (Some x)) v = cond (is_port x) 0 (above x.lowest v)
 
 abbrev pub mode_field : Row → ℕ → Field
 mode_field r m = record { bits = mode_bits (component_entry r); value = m }

@@ -1,10 +1,9 @@
 -- The state that a bit string stands for.
-use Rattle.std.specs.Prelude.{ℕ, ◌+◌, ◌/◌, ◌%◌, ◌^◌, ◌<◌, cond, List, [], ◌∷◌, ◌++◌, map, length, take, drop, ℤ, pos, ◌+ℤ◌}
+use Rattle.std.specs.Prelude.{ℕ, ◌+◌, ◌/◌, ◌%◌, ◌^◌, ◌<◌, cond, List, [], ◌∷◌, ◌++◌, map, length, take, drop, ℤ, pos, ◌+ℤ◌, Err, None, Ok, Some}
 use Rattle.std.specs.Simd.Lanes.{zip2}
 use Rattle.std.specs.List.{AllZip}
+use Rattle.sheet.specs.Entry.{Entry, malformed}
 use Rattle.sheet.specs.declared.rows.Element.{Element}
-use Rattle.sheet.specs.declared.rows.Entry.{Entry}
-use Rattle.sheet.specs.declared.rows.Entry.TheVariants.{Blank, Faulty, Holds}
 use Rattle.sheet.specs.Rules.{is_port}
 use Rattle.sheet.specs.Sections.{Sheet, rows, components, elements}
 use Rattle.sheet.specs.Typed.{component_entry, element_entry}
@@ -32,9 +31,9 @@ numbers_in (w ∷ ws) n = n % 2 ^ w ∷ numbers_in ws (n / 2 ^ w)
 
 -- the value that a number stands for in an element's field
 abbrev pub value_from : Entry Element → ℕ → ℤ
-value_from Blank n = pos 0
-value_from Faulty n = pos 0
-value_from (Holds x) n = cond (is_port x) (pos 0) (x.lowest +ℤ pos n)
+value_from (Ok None) n = pos 0
+value_from (Err _) n = pos 0
+value_from (Ok (Some x)) n = cond (is_port x) (pos 0) (x.lowest +ℤ pos n)
 
 -- the state that the numbers in the fields stand for
 abbrev pub state_from : Sheet → List ℕ → State

@@ -1,12 +1,11 @@
 -- The effects of the rules of an accepted sheet have places.
-use Rattle.std.proofs.Common.{◌≡◌, ℕ, zero, suc, ◌+◌, ◌%◌, ◌^◌, ◌<◌, ◌≤◌, Bool, true, false, cond, not, ◌&&◌, eqb, ltb, leb, List, [], get_or, is_some, Some, None, Option, sym, refl, subst, ⊎_elim, div-one, arith, pow_mono}
+use Rattle.std.proofs.Common.{◌≡◌, ℕ, zero, suc, ◌+◌, ◌%◌, ◌^◌, ◌<◌, ◌≤◌, Bool, true, false, cond, not, ◌&&◌, eqb, ltb, leb, List, [], get_or, is_some, Some, None, Option, sym, refl, subst, ⊎_elim, div-one, arith, pow_mono, Err}
 use native.Mathlib.Nat.{div-eq_of_lt}
 use Rattle.std.proofs.lemmas.Bool.{false≢true, both_ways, and_parts, ltb-true, leb-true, eqb-true, cases_lt}
+use Rattle.sheet.specs.Entry.{Entry, malformed}
 use Rattle.sheet.specs.declared.rows.Component.{Component}
 use Rattle.sheet.specs.declared.rows.Connection.{Connection}
 use Rattle.sheet.specs.declared.rows.Element.{Element}
-use Rattle.sheet.specs.declared.rows.Entry.{Entry}
-use Rattle.sheet.specs.declared.rows.Entry.TheVariants.{Faulty}
 use Rattle.sheet.specs.declared.rows.Event.{Event}
 use Rattle.sheet.specs.declared.rows.Flow.{Flow}
 use Rattle.sheet.specs.declared.rows.Node.{Node}
@@ -52,7 +51,7 @@ module _ {X : Type 0} (P : X → Type 0) where
   all_unless true u p x e = no_pass x (sym e)
   all_unless false u p x e = p x e
 
-  all_faulty : HeldAll P Faulty
+  all_faulty : HeldAll P (Err malformed)
   all_faulty x e = no_pass x (sym e)
 
 -- a component has at most 15 modes

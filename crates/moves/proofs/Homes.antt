@@ -9,7 +9,6 @@ use Rattle.sheet.specs.Typed.{component_entry, element_entry}
 use Rattle.running.specs.States.{State, mode_of, held_of, is_held, with_mode, with_value, start_mode, start_value, start_state}
 use Rattle.running.proofs.StatesKept.{start_state_of}
 use Rattle.view.specs.Checks.{rest_held}
-use Rattle.view.specs.Fit.{Fit}
 use Rattle.moves.specs.Places.{Placed, with_some_value, at_start_modes, at_start_values}
 use Rattle.moves.proofs.Allowed.{start_mode_allowed, start_value_is, start_value_none}
 use Rattle.moves.proofs.Refills.{Refilled, refilled_none, refilled_more, refilled_kept, refilled_all}
@@ -25,10 +24,6 @@ pub record ValuesReset (s r : Sheet) (was w : State) (n i : ℕ) : Type 0 where
   pub filled : Refilled w.held (start_state s).held was.held (pos 0) n i
   pub modes_kept : w.modes ≡ was.modes
   pub rows_kept : r ≡ s
-
--- what fits still fits with the rows under another name
-pub still_accepted : (s r : Sheet) (fits : Type 0) → r ≡ s → accepted s ≡ true → fits → Fit fits r
-still_accepted s r fits e a f = record { fits = f; accepts = ap accepted e ∙ a }
 
 module _ (s : Sheet) (was : State) (n : ℕ) where
   pub no_modes_reset : Placed s was → n ≡ length (rows s components) → ModesReset s s was was n 0

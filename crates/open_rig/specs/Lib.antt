@@ -1,3 +1,3 @@
 pub mod Open
-pub mod Settle
+pub mod Records
 pub mod Tables

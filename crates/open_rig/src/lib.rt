@@ -1,7 +1,7 @@
 // The open rig.
 #![tactic(auto)]
 
-mod moves;
 pub mod open;
+mod record;
 mod store;
 mod tables;

@@ -4,15 +4,18 @@ ghost use Rattle.std.specs.Prelude.{◌≡◌, ℕ, List};
 ghost use Rattle.reader.specs.Means.{rows_held};
 ghost use Rattle.open_rig.specs.Open.{rows_of, meaning_of, Fits, MadeOf};
 ghost use Rattle.std.proofs.Common.{rules};
+ghost use Rattle.std.proofs.Props.{props};
 
-use crate::tables::{ComponentRecord, ElementRecord, Tables};
+use crate::record::{ComponentRecord, ElementRecord};
+use crate::tables::Tables;
+use moves::home::go_home;
+use moves::step::make_step;
 use reader::accepted::AcceptedSheet;
 use rig::rig::Rig;
 use running::kinds::{Step, StepRefusal};
+use sheet::sizes::{COMPONENTS, ELEMENTS};
 use std::alloc::Global;
 use view::answers::{mode_told, value_told};
-use view::checks::check_step;
-use view::values::node_values;
 use view::view::View;
 
 // A rig with a record for each component and one for each element.
@@ -26,8 +29,8 @@ impl OpenRig {
     pub fn new(heap: Global, sheet: AcceptedSheet) -> Result<OpenRig, AcceptedSheet>
         ensures { MadeOf sheet result }
     {
-        let components = sheet.count(0).unwrap_or(0);
-        let elements = sheet.count(1).unwrap_or(0);
+        let components = sheet.count(COMPONENTS).unwrap_or(0);
+        let elements = sheet.count(ELEMENTS).unwrap_or(0);
         let Ok(components) = vec![in heap; ComponentRecord { mode: 0 }; components] else {
             return Err(sheet);
         };
@@ -39,8 +42,7 @@ impl OpenRig {
             components,
             elements,
         };
-        tables.reset_modes();
-        tables.reset_values();
+        go_home(&mut tables);
         Ok(OpenRig { tables })
     }
 }
@@ -51,6 +53,8 @@ impl Rig for OpenRig {
     ghost means = { meaning_of };
 
     ghost fits = { Fits };
+
+    ghost fits_is_a_fact = { λ x. Prim.hlevel props };
 
     ghost sound = { Prim.search rules };
 
@@ -71,15 +75,10 @@ impl Rig for OpenRig {
     }
 
     fn home(&mut self) {
-        self.tables.reset_modes();
-        self.tables.reset_values();
+        go_home(&mut self.tables);
     }
 
     fn step(&mut self, step: Step) -> Result<(), StepRefusal> {
-        let worths = node_values(&self.tables);
-        check_step(&self.tables, &worths, step)?;
-        self.tables.settle(&worths, step);
-        self.tables.move_parts(step);
-        Ok(())
+        make_step(&mut self.tables, step)
     }
 }

@@ -1,18 +1,11 @@
 // The tables of an open rig.
 
+ghost use Rattle.moves.specs.Places.{Placed};
+ghost use Rattle.open_rig.specs.Records.{state_of_records};
+ghost use Rattle.reader.specs.Means.{rows_held};
+
+use crate::record::{ComponentRecord, ElementRecord};
 use reader::accepted::AcceptedSheet;
-
-// A component stands in a mode.
-#[derive(Clone, Copy)]
-pub(crate) struct ComponentRecord {
-    pub(crate) mode: u8,
-}
-
-// An element has a value if it is held, else 0.
-#[derive(Clone, Copy)]
-pub(crate) struct ElementRecord {
-    pub(crate) value: i32,
-}
 
 // A sheet, with a record for each component and one for each element.
 #[derive(Drop)]
@@ -20,4 +13,5 @@ pub(crate) struct Tables {
     pub(crate) sheet: AcceptedSheet,
     pub(crate) components: Vec<ComponentRecord>,
     pub(crate) elements: Vec<ElementRecord>,
+    ghost placed: { Placed (rows_held sheet) (state_of_records components.items elements.items) },
 }

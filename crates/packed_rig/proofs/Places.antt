@@ -1,10 +1,9 @@
 -- Modes and values, by the fields in which they stand.
-use Rattle.std.proofs.Common.{◌≡◌, ℕ, ◌+◌, ◌^◌, ◌<◌, ◌≤◌, true, false, cond, not, ◌&&◌, leb, List, [], length, get_or, ℤ, pos, negsuc, ◌+ℤ◌, Some, sym, ap, ◌∙◌, subst, ap₂, arith, pow_mono, w32, SFits, to_z, of_z}
+use Rattle.std.proofs.Common.{◌≡◌, ℕ, ◌+◌, ◌^◌, ◌<◌, ◌≤◌, true, false, cond, not, ◌&&◌, leb, List, [], length, get_or, ℤ, pos, negsuc, ◌+ℤ◌, Some, sym, ap, ◌∙◌, subst, ap₂, arith, pow_mono, w32, SFits, to_z, of_z, Ok}
 use lib.Signed.{le_z}
 use Rattle.std.proofs.lemmas.Int.{ints, to_z-of_z, to_z_pos}
 use Rattle.std.proofs.lemmas.Bool.{and_parts, leb-true, not-true}
 use Rattle.sheet.specs.declared.rows.Element.{Element}
-use Rattle.sheet.specs.declared.rows.Entry.TheVariants.{Holds}
 use Rattle.sheet.specs.Lookup.{component_at, element_at}
 use Rattle.sheet.specs.Rules.{is_port, has_mode}
 use Rattle.sheet.specs.Sections.{Sheet, rows, components, elements}
@@ -50,7 +49,7 @@ module _ (s : Sheet) where
     there : e < length (rows s elements)
     there = (there_inside element_entry (rows s elements) e x here).0
 
-    entry_is : element_entry (get_or (rows s elements) e []) ≡ Holds x
+    entry_is : element_entry (get_or (rows s elements) e []) ≡ Ok (Some x)
     entry_is = held_holds (element_entry (get_or (rows s elements) e [])) x (there_inside element_entry (rows s elements) e x here).1
 
     pub field_of_value : length (rows s components) + e < length (widths s)

@@ -1,68 +1,68 @@
-// The counts and bytes of an accepted sheet.
+// The counts, bytes and typed rows of an accepted sheet.
 
 ghost use Rattle.std.specs.Prelude.{◌≡◌, ℕ, [], slice_index_or};
 ghost use Rattle.std.specs.List.{slice_get};
+ghost use Rattle.layout.specs.Laid.{rows_of};
 ghost use Rattle.sheet.specs.Cells.{count_of, byte_of};
-ghost use Rattle.sheet.specs.Lookup.{component_at, element_at, question_at};
+ghost use Rattle.sheet.specs.Lookup.{there};
+ghost use Rattle.sheet.specs.Sections.{rows};
 ghost use Rattle.reader.specs.Means.{rows_held};
 
 use crate::accepted::AcceptedSheet;
-use sheet::decode::row_at;
-use sheet::rows::{Component, Element, Question};
-use sheet::sizes::{COMPONENT_BYTES, ELEMENT_BYTES, QUESTION_BYTES};
+use layout::rows::Layout;
+use layout::section::InLayout;
+use sheet::sizes::{
+    COMPONENTS, CONNECTIONS, ELEMENTS, EVENTS, FLOWS, NODES, QUESTIONS, SETTINGS, TRANSITIONS,
+};
 
 // One byte of a row, or nothing where there is none.
 fn cell<const N: usize>(rows: &[[u8; N]], row: usize, place: usize) -> Option<u8>
     ensures { result ≡ slice_get (slice_index_or rows.now row []) place }
 {
-    if row >= rows.len() {
-        return None;
-    }
-    let bytes = rows[row].as_slice();
-    if place >= bytes.len() {
-        return None;
-    }
-    Some(bytes[place])
+    rows.get(row)?.get(place).copied()
 }
 
 impl AcceptedSheet {
+    // The sheet as the sections that it holds.
+    fn layout(&self) -> Layout<'_>
+        ensures { rows_of result ≡ rows_held self.now }
+    {
+        Layout {
+            components: &self.components,
+            elements: &self.elements,
+            events: &self.events,
+            nodes: &self.nodes,
+            flows: &self.flows,
+            connections: &self.connections,
+            transitions: &self.transitions,
+            settings: &self.settings,
+            questions: &self.questions,
+        }
+    }
+
+    // What a row holds, or nothing where there is none or it is blank.
+    pub fn row<const N: usize, R: InLayout<N>>(&self, row: usize) -> Option<R>
+        ensures { result ≡ there R.FromRow.entry (rows (rows_held self.now) R.FromRow.SECTION) row }
+    {
+        self.layout().row(row)
+    }
+
     // The number of rows of a section, or nothing where there is no such section.
     pub fn count(&self, section: usize) -> Option<usize>
         ensures { result ≡ count_of (rows_held self.now) section }
     {
         match section {
-            0 => Some(self.components.len()),
-            1 => Some(self.elements.len()),
-            2 => Some(self.events.len()),
-            3 => Some(self.nodes.len()),
-            4 => Some(self.flows.len()),
-            5 => Some(self.connections.len()),
-            6 => Some(self.transitions.len()),
-            7 => Some(self.settings.len()),
-            8 => Some(self.questions.len()),
+            COMPONENTS => Some(self.components.len()),
+            ELEMENTS => Some(self.elements.len()),
+            EVENTS => Some(self.events.len()),
+            NODES => Some(self.nodes.len()),
+            FLOWS => Some(self.flows.len()),
+            CONNECTIONS => Some(self.connections.len()),
+            TRANSITIONS => Some(self.transitions.len()),
+            SETTINGS => Some(self.settings.len()),
+            QUESTIONS => Some(self.questions.len()),
             _ => None,
         }
-    }
-
-    // What a row of the components holds, or nothing where there is none.
-    pub fn component(&self, row: usize) -> Option<Component>
-        ensures { result ≡ component_at (rows_held self.now) row }
-    {
-        row_at::<COMPONENT_BYTES, Component>(&self.components, row)
-    }
-
-    // What a row of the elements holds, or nothing where there is none or it is blank.
-    pub fn element(&self, row: usize) -> Option<Element>
-        ensures { result ≡ element_at (rows_held self.now) row }
-    {
-        row_at::<ELEMENT_BYTES, Element>(&self.elements, row)
-    }
-
-    // What a row of the questions holds, or nothing where there is none or it is blank.
-    pub fn question(&self, row: usize) -> Option<Question>
-        ensures { result ≡ question_at (rows_held self.now) row }
-    {
-        row_at::<QUESTION_BYTES, Question>(&self.questions, row)
     }
 
     // One byte of a row, or nothing where there is none.
@@ -70,15 +70,15 @@ impl AcceptedSheet {
         ensures { result ≡ byte_of (rows_held self.now) section row place }
     {
         match section {
-            0 => cell(&self.components, row, place),
-            1 => cell(&self.elements, row, place),
-            2 => cell(&self.events, row, place),
-            3 => cell(&self.nodes, row, place),
-            4 => cell(&self.flows, row, place),
-            5 => cell(&self.connections, row, place),
-            6 => cell(&self.transitions, row, place),
-            7 => cell(&self.settings, row, place),
-            8 => cell(&self.questions, row, place),
+            COMPONENTS => cell(&self.components, row, place),
+            ELEMENTS => cell(&self.elements, row, place),
+            EVENTS => cell(&self.events, row, place),
+            NODES => cell(&self.nodes, row, place),
+            FLOWS => cell(&self.flows, row, place),
+            CONNECTIONS => cell(&self.connections, row, place),
+            TRANSITIONS => cell(&self.transitions, row, place),
+            SETTINGS => cell(&self.settings, row, place),
+            QUESTIONS => cell(&self.questions, row, place),
             _ => None,
         }
     }

@@ -1,11 +1,11 @@
 -- What a rig tells of its state is the state.
-use Rattle.std.proofs.Common.{◌≡◌, ℕ, ◌<◌, ◌≤◌, Bool, true, false, not, [], length, get_or, ℤ, pos, Some, None, Option, unwrap_or, sym, refl, ap, ◌∙◌, ⊎_elim, arith}
+use Rattle.std.proofs.Common.{◌≡◌, ℕ, ◌<◌, ◌≤◌, Bool, true, false, not, [], length, get_or, ℤ, pos, Some, None, Option, unwrap_or, sym, refl, ap, ◌∙◌, ⊎_elim, arith, Err}
 use Rattle.std.proofs.lemmas.List.{get_or_past}
 use Rattle.std.proofs.lemmas.Option.{slice_get-get_or}
 use Rattle.std.proofs.lemmas.Bool.{cases_lt, not-true}
 use Rattle.std.specs.Option.{option_map}
+use Rattle.sheet.specs.Entry.{malformed}
 use Rattle.sheet.specs.declared.rows.Component.{Component}
-use Rattle.sheet.specs.declared.rows.Entry.TheVariants.{Faulty}
 use Rattle.sheet.specs.Accept.{accepted}
 use Rattle.sheet.specs.Lookup.{held, read_by, component_at, element_at}
 use Rattle.sheet.specs.Rules.{is_port}
@@ -20,7 +20,7 @@ use Rattle.running.specs.Values.{value_of}
 use Rattle.running.proofs.Elements.{values_by_laws}
 
 -- a row of the components holds one or is faulty
-holds_or_faulty : (b : Bool) (x : Component) → held (holds_if b x) ≡ None → holds_if b x ≡ Faulty
+holds_or_faulty : (b : Bool) (x : Component) → held (holds_if b x) ≡ None → holds_if b x ≡ Err malformed
 holds_or_faulty true x e = no_pass x e
 holds_or_faulty false x e = refl
 

@@ -5,8 +5,9 @@ use view::view::View;
 
 // A rig, seen through its reading calls.
 #[derive(Drop)]
-pub struct Seen<'a, R> {
+pub struct Seen<'a, R: Rig> {
     pub rig: &'a R,
+    ghost fits: { R.Rig.fits rig.now } by { R.Rig.fits_is_a_fact rig.now },
 }
 
 impl<'a, R: Rig> View for Seen<'a, R> {
@@ -14,7 +15,7 @@ impl<'a, R: Rig> View for Seen<'a, R> {
 
     ghost state = { λ x. (R.Rig.means x.rig.now).state };
 
-    ghost fits = { λ x. R.Rig.fits x.rig.now };
+    ghost accepts = { λ x. (R.Rig.sound x.rig.now x.fits).accepts };
 
     fn count(&self, section: usize) -> Option<usize> {
         self.rig.count(section)

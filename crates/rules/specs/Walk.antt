@@ -1,12 +1,33 @@
 -- The rows tried section by section, as the code walks them. The public contract does not rest on it.
-use Rattle.std.specs.Prelude.{ℕ, List, Ok, Err, Result}
-use Rattle.sheet.specs.declared.rows.Entry.{Entry}
+use Rattle.std.specs.Prelude.{ℕ, Bool, List, [], ◌∷◌, Some, None, Ok, Err, Result}
+use Rattle.sheet.specs.Entry.{Entry}
+use Rattle.sheet.specs.declared.refusal.Reason.{Reason}
+use Rattle.sheet.specs.declared.refusal.Reason.TheVariants.{WrongByItself, WrongByReference, Clash, ForbiddenResting}
 use Rattle.sheet.specs.declared.refusal.Refusal.{Refusal}
 use Rattle.sheet.specs.Sections.{Row, Sheet, rows, components, elements, events, nodes, flows, connections, transitions, settings, questions}
-use Rattle.sheet.specs.Tries.{first_fault}
+use Rattle.sheet.specs.Tries.{Try, must, first_fault}
 use Rattle.sheet.specs.Typed.{component_entry, element_entry, event_entry, node_entry, flow_entry, connection_entry, transition_entry, setting_entry, question_entry}
 use Rattle.sheet.specs.Rules.{Checks, component_checks, element_checks, event_checks, node_checks, flow_checks, connection_checks, transition_checks, setting_checks, question_checks}
 use Rattle.sheet.specs.Accept.{rows_tries, judged}
+
+-- no reason to refuse, or the reason
+abbrev pub by_reason : Try Reason → Result (Unit {0}) Reason
+by_reason None = Ok tt
+by_reason (Some y) = Err y
+
+-- the verdict by one rule: kept, or the reason to refuse
+abbrev pub by_rule : Bool → Reason → Result (Unit {0}) Reason
+by_rule kept y = by_reason (must kept y)
+
+-- the first rule that is broken, in the order of the reasons
+abbrev pub broken : Checks → Try Reason
+broken c = first_fault (must c.names_right WrongByReference ∷ must c.clash_free Clash ∷ must c.rests_right ForbiddenResting ∷ [])
+
+-- the reason to refuse a row by what its bytes say, if there is one
+abbrev pub row_reason : {X : Type 0} → (X → Checks) → Entry X → Try Reason
+row_reason checks (Ok None) = None
+row_reason checks (Ok (Some x)) = broken (checks x)
+row_reason checks (Err f) = Some WrongByItself
 
 abbrev pub Verdict : Type 0
 Verdict = Result (Unit {0}) Refusal

@@ -3,37 +3,30 @@
 
 ghost use Rattle.std.specs.Prelude.{◌≡◌, ℕ, Bool, List, Option};
 ghost use Rattle.layout.specs.Laid.{rows_of};
+ghost use Rattle.rules.specs.Walk.{broken, by_reason, by_rule};
 ghost use Rattle.sheet.specs.Lookup.{there, is};
-ghost use Rattle.sheet.specs.Rules.{Checks, lower_value, lower_condition, node_names, leads, event_of, settable, flows_clash, settings_clash, clear_of_earlier, component_checks, element_checks, event_checks, node_checks, flow_checks, connection_checks, transition_checks, setting_checks, question_checks};
+ghost use Rattle.sheet.specs.Sections.{rows as rows_in_section};
+ghost use Rattle.sheet.specs.Rules.{Checks, lower_value, lower_condition, node_names, flow_names, leads, event_of, settable, flows_clash, settings_clash, clear_of_earlier, component_checks, element_checks, event_checks, node_checks, flow_checks, connection_checks, transition_checks, setting_checks, question_checks};
 
-use crate::names::{
-    element, event, has_component, has_mode, has_modes, is_a_port, is_an_out_event,
-    is_condition_node, is_value_node, transition,
-};
+use crate::names::{has_component, has_mode, has_modes, is_condition_node, is_value_node};
 use crate::resting::rests_on;
 use layout::rows::Layout;
-use sheet::decode::{FromRow, row_at};
+use layout::section::InLayout;
+use sheet::decode::FromRow;
+use sheet::refusal::Reason;
 use sheet::rows::{
-    Component, Connection, Element, Event, Flow, Node, Question, Setting, Target, Transition,
+    Component, Connection, Direction, Element, Event, Flow, Kind, Node, Question, Setting, Target,
+    Transition,
 };
-use sheet::sizes::{FLOW_BYTES, SETTING_BYTES};
 
 // What a row holds, and the rules that are tried of it.
 pub(crate) trait Tried: Copy {
     // The three tests of row i of its section.
     ghost checks: { List (List (List ℕ)) → ℕ → Self → Checks };
 
-    // What the row names is there and fits.
-    fn names_right(self, sheet: &Layout, i: usize) -> bool
-        ensures { result ≡ (checks (rows_of sheet.now) i self).names_right };
-
-    // The row does not clash with an earlier one.
-    fn clash_free(self, sheet: &Layout, i: usize) -> bool
-        ensures { result ≡ (checks (rows_of sheet.now) i self).clash_free };
-
-    // The row rests on nothing forbidden.
-    fn rests_right(self, sheet: &Layout, i: usize) -> bool
-        ensures { result ≡ (checks (rows_of sheet.now) i self).rests_right };
+    // The first rule that is broken by row i of its section, which holds this.
+    fn try_rules(self, sheet: &Layout, i: usize) -> Result<(), Reason>
+        ensures { result ≡ by_reason (broken (checks (rows_of sheet.now) i self)) };
 }
 
 // Rows of which two can clash.
@@ -60,26 +53,33 @@ impl Clashing for Setting {
     }
 }
 
-// Whether row j clashes with x.
-fn clashes_with<const N: usize, R: FromRow<N> + Clashing>(rows: &[[u8; N]], j: usize, x: R) -> bool
-    ensures { result ≡ is (there R.FromRow.entry rows.now j) (λ y. R.Clashing.clash y x) }
+// Refuses by the reason unless the rule is kept.
+fn require(kept: bool, reason: Reason) -> Result<(), Reason>
+    ensures { result ≡ by_rule kept reason }
 {
-    match row_at::<N, R>(rows, j) {
-        Some(y) => y.clashes(x),
-        None => false,
-    }
+    if kept { Ok(()) } else { Err(reason) }
+}
+
+// Whether row j clashes with x.
+fn clashes_with<const N: usize, R: InLayout<N> + Clashing>(sheet: &Layout, j: usize, x: R) -> bool
+    ensures { result ≡ is (there R.FromRow.entry (rows_in_section (rows_of sheet.now) R.FromRow.SECTION) j) (λ y. R.Clashing.clash y x) }
+{
+    let Some(y) = sheet.row::<N, R>(j) else {
+        return false;
+    };
+    y.clashes(x)
 }
 
 // Whether row i, which holds x, clashes with no earlier row.
-fn is_clear_of_earlier<const N: usize, R: FromRow<N> + Clashing>(
-    rows: &[[u8; N]],
+fn is_clear_of_earlier<const N: usize, R: InLayout<N> + Clashing>(
+    sheet: &Layout,
     i: usize,
     x: R,
 ) -> bool
-    ensures { result ≡ clear_of_earlier R.FromRow.entry R.Clashing.clash rows.now i x }
+    ensures { result ≡ clear_of_earlier R.FromRow.entry R.Clashing.clash (rows_in_section (rows_of sheet.now) R.FromRow.SECTION) i x }
 {
     for j in 0..i {
-        if clashes_with::<N, R>(rows, j, x) {
+        if clashes_with(sheet, j, x) {
             return false;
         }
     }
@@ -89,48 +89,30 @@ fn is_clear_of_earlier<const N: usize, R: FromRow<N> + Clashing>(
 impl Tried for Component {
     ghost checks = { component_checks };
 
-    fn names_right(self, _sheet: &Layout, _i: usize) -> bool {
-        true
-    }
-
-    fn clash_free(self, _sheet: &Layout, _i: usize) -> bool {
-        true
-    }
-
-    fn rests_right(self, _sheet: &Layout, _i: usize) -> bool {
-        true
+    fn try_rules(self, _sheet: &Layout, _i: usize) -> Result<(), Reason> {
+        Ok(())
     }
 }
 
 impl Tried for Element {
     ghost checks = { element_checks };
 
-    fn names_right(self, sheet: &Layout, _i: usize) -> bool {
-        has_component(sheet, self.component)
-    }
-
-    fn clash_free(self, _sheet: &Layout, _i: usize) -> bool {
-        true
-    }
-
-    fn rests_right(self, _sheet: &Layout, _i: usize) -> bool {
-        true
+    fn try_rules(self, sheet: &Layout, _i: usize) -> Result<(), Reason> {
+        require(
+            has_component(sheet, self.component),
+            Reason::WrongByReference,
+        )
     }
 }
 
 impl Tried for Event {
     ghost checks = { event_checks };
 
-    fn names_right(self, sheet: &Layout, _i: usize) -> bool {
-        has_component(sheet, self.component)
-    }
-
-    fn clash_free(self, _sheet: &Layout, _i: usize) -> bool {
-        true
-    }
-
-    fn rests_right(self, _sheet: &Layout, _i: usize) -> bool {
-        true
+    fn try_rules(self, sheet: &Layout, _i: usize) -> Result<(), Reason> {
+        require(
+            has_component(sheet, self.component),
+            Reason::WrongByReference,
+        )
     }
 }
 
@@ -138,58 +120,61 @@ impl Tried for Event {
 fn is_lower_value(sheet: &Layout, i: usize, a: u8) -> bool
     ensures { result ≡ lower_value (rows_of sheet.now) i a }
 {
-    (a as usize) < i && is_value_node(sheet, a)
+    usize::from(a) < i && is_value_node(sheet, a)
 }
 
 // Whether node a is a condition node with a lower number than i.
 fn is_lower_condition(sheet: &Layout, i: usize, a: u8) -> bool
     ensures { result ≡ lower_condition (rows_of sheet.now) i a }
 {
-    (a as usize) < i && is_condition_node(sheet, a)
+    usize::from(a) < i && is_condition_node(sheet, a)
+}
+
+// Whether what node i names is there and fits.
+fn node_names_right(sheet: &Layout, i: usize, node: Node) -> bool
+    ensures { result ≡ node_names (rows_of sheet.now) i node }
+{
+    match node {
+        Node::Constant(_) | Node::True => true,
+        Node::Element(e) => sheet.row::<_, Element>(usize::from(e)).is_some(),
+        Node::Sum(a, b) | Node::Difference(a, b) | Node::Equal(a, b) | Node::Less(a, b) =>
+            is_lower_value(sheet, i, a) && is_lower_value(sheet, i, b),
+        Node::Not(a) => is_lower_condition(sheet, i, a),
+        Node::And(a, b) => is_lower_condition(sheet, i, a) && is_lower_condition(sheet, i, b),
+        Node::InMode(c, m) => has_mode(sheet, c, m),
+    }
 }
 
 impl Tried for Node {
     ghost checks = { node_checks };
 
-    fn names_right(self, sheet: &Layout, i: usize) -> bool {
-        match self {
-            Node::Constant(_) | Node::True => true,
-            Node::Element(e) => element(sheet, e).is_some(),
-            Node::Sum(a, b) | Node::Difference(a, b) | Node::Equal(a, b) | Node::Less(a, b) =>
-                is_lower_value(sheet, i, a) && is_lower_value(sheet, i, b),
-            Node::Not(a) => is_lower_condition(sheet, i, a),
-            Node::And(a, b) => is_lower_condition(sheet, i, a) && is_lower_condition(sheet, i, b),
-            Node::InMode(c, m) => has_mode(sheet, c, m),
-        }
+    fn try_rules(self, sheet: &Layout, i: usize) -> Result<(), Reason> {
+        require(node_names_right(sheet, i, self), Reason::WrongByReference)
     }
+}
 
-    fn clash_free(self, _sheet: &Layout, _i: usize) -> bool {
-        true
-    }
-
-    fn rests_right(self, _sheet: &Layout, _i: usize) -> bool {
-        true
-    }
+// Whether the flow leads from a value node to a port, in modes of the port's component.
+fn flow_names_right(sheet: &Layout, flow: Flow) -> bool
+    ensures { result ≡ flow_names (rows_of sheet.now) flow }
+{
+    let Some(port) = sheet.row::<_, Element>(usize::from(flow.port)) else {
+        return false;
+    };
+    port.kind == Kind::Port
+        && has_modes(sheet, port.component, flow.modes)
+        && is_value_node(sheet, flow.node)
 }
 
 impl Tried for Flow {
     ghost checks = { flow_checks };
 
-    fn names_right(self, sheet: &Layout, _i: usize) -> bool {
-        let Some(port) = element(sheet, self.port) else {
-            return false;
-        };
-        is_a_port(port)
-            && has_modes(sheet, port.component, self.modes)
-            && is_value_node(sheet, self.node)
-    }
-
-    fn clash_free(self, sheet: &Layout, i: usize) -> bool {
-        is_clear_of_earlier::<FLOW_BYTES, Flow>(sheet.flows, i, self)
-    }
-
-    fn rests_right(self, sheet: &Layout, _i: usize) -> bool {
-        !rests_on(sheet.nodes, Target::ElementFrom(self.port), self.node)
+    fn try_rules(self, sheet: &Layout, i: usize) -> Result<(), Reason> {
+        require(flow_names_right(sheet, self), Reason::WrongByReference)?;
+        require(is_clear_of_earlier(sheet, i, self), Reason::Clash)?;
+        require(
+            !rests_on(sheet, Target::ElementFrom(self.port), self.node),
+            Reason::ForbiddenResting,
+        )
     }
 }
 
@@ -197,29 +182,22 @@ impl Tried for Flow {
 fn are_connected(out_event: Option<Event>, in_event: Option<Event>) -> bool
     ensures { result ≡ leads out_event in_event }
 {
-    let Some(x) = out_event else {
+    let (Some(x), Some(y)) = (out_event, in_event) else {
         return false;
     };
-    let Some(y) = in_event else {
-        return false;
-    };
-    is_an_out_event(x) && !is_an_out_event(y) && x.component != y.component
+    x.direction == Direction::Out && y.direction == Direction::In && x.component != y.component
 }
 
 impl Tried for Connection {
     ghost checks = { connection_checks };
 
-    fn names_right(self, sheet: &Layout, _i: usize) -> bool {
-        are_connected(event(sheet, self.out_event), event(sheet, self.in_event))
-            && has_modes(sheet, self.owner, self.modes)
-    }
-
-    fn clash_free(self, _sheet: &Layout, _i: usize) -> bool {
-        true
-    }
-
-    fn rests_right(self, _sheet: &Layout, _i: usize) -> bool {
-        true
+    fn try_rules(self, sheet: &Layout, _i: usize) -> Result<(), Reason> {
+        let out_event = sheet.row(usize::from(self.out_event));
+        let in_event = sheet.row(usize::from(self.in_event));
+        require(
+            are_connected(out_event, in_event) && has_modes(sheet, self.owner, self.modes),
+            Reason::WrongByReference,
+        )
     }
 }
 
@@ -230,28 +208,26 @@ fn is_event_of(sheet: &Layout, c: u8, named: Option<u8>) -> bool
     let Some(v) = named else {
         return true;
     };
-    match event(sheet, v) {
-        Some(y) => y.component == c,
-        None => false,
-    }
+    sheet
+        .row(usize::from(v))
+        .is_some_and(|y: Event| y.component == c)
 }
 
 impl Tried for Transition {
     ghost checks = { transition_checks };
 
-    fn names_right(self, sheet: &Layout, _i: usize) -> bool {
-        has_mode(sheet, self.component, self.from)
-            && has_mode(sheet, self.component, self.to)
-            && is_event_of(sheet, self.component, self.event)
-            && is_condition_node(sheet, self.guard)
-    }
-
-    fn clash_free(self, _sheet: &Layout, _i: usize) -> bool {
-        true
-    }
-
-    fn rests_right(self, sheet: &Layout, _i: usize) -> bool {
-        !rests_on(sheet.nodes, Target::AnyMode, self.guard)
+    fn try_rules(self, sheet: &Layout, _i: usize) -> Result<(), Reason> {
+        require(
+            has_mode(sheet, self.component, self.from)
+                && has_mode(sheet, self.component, self.to)
+                && is_event_of(sheet, self.component, self.event)
+                && is_condition_node(sheet, self.guard),
+            Reason::WrongByReference,
+        )?;
+        require(
+            !rests_on(sheet, Target::AnyMode, self.guard),
+            Reason::ForbiddenResting,
+        )
     }
 }
 
@@ -259,46 +235,33 @@ impl Tried for Transition {
 fn is_settable(by: Option<Transition>, what: Option<Element>) -> bool
     ensures { result ≡ settable by what }
 {
-    let Some(x) = by else {
+    let (Some(x), Some(y)) = (by, what) else {
         return false;
     };
-    let Some(y) = what else {
-        return false;
-    };
-    !is_a_port(y) && y.component == x.component
+    y.kind == Kind::Held && y.component == x.component
 }
 
 impl Tried for Setting {
     ghost checks = { setting_checks };
 
-    fn names_right(self, sheet: &Layout, _i: usize) -> bool {
-        is_settable(
-            transition(sheet, self.transition),
-            element(sheet, self.element),
-        ) && is_value_node(sheet, self.node)
-    }
-
-    fn clash_free(self, sheet: &Layout, i: usize) -> bool {
-        is_clear_of_earlier::<SETTING_BYTES, Setting>(sheet.settings, i, self)
-    }
-
-    fn rests_right(self, _sheet: &Layout, _i: usize) -> bool {
-        true
+    fn try_rules(self, sheet: &Layout, i: usize) -> Result<(), Reason> {
+        let by = sheet.row(usize::from(self.transition));
+        let what = sheet.row(usize::from(self.element));
+        require(
+            is_settable(by, what) && is_value_node(sheet, self.node),
+            Reason::WrongByReference,
+        )?;
+        require(is_clear_of_earlier(sheet, i, self), Reason::Clash)
     }
 }
 
 impl Tried for Question {
     ghost checks = { question_checks };
 
-    fn names_right(self, sheet: &Layout, _i: usize) -> bool {
-        is_condition_node(sheet, self.node)
-    }
-
-    fn clash_free(self, _sheet: &Layout, _i: usize) -> bool {
-        true
-    }
-
-    fn rests_right(self, _sheet: &Layout, _i: usize) -> bool {
-        true
+    fn try_rules(self, sheet: &Layout, _i: usize) -> Result<(), Reason> {
+        require(
+            is_condition_node(sheet, self.node),
+            Reason::WrongByReference,
+        )
     }
 }

@@ -1,11 +1,12 @@
 // What a node rests on, each node worked out once, in rising order.
 
 ghost use Rattle.std.specs.Prelude.{◌≡◌, ℕ, false, List, slice_index_or};
-ghost use Rattle.sheet.specs.Resting.{hits, any_marked, operands, mark, marks};
+ghost use Rattle.layout.specs.Laid.{rows_of};
+ghost use Rattle.sheet.specs.Resting.{hits, any_marked, operands, mark, marks, rests};
+ghost use Rattle.sheet.specs.Sections.{rows as rows_in_section, nodes};
 
-use sheet::decode::row_at;
+use layout::rows::Layout;
 use sheet::rows::{Node, Target};
-use sheet::sizes::NODE_BYTES;
 
 // More than the largest number of a node that a row can name.
 const NODE_NUMBERS: usize = 256;
@@ -15,7 +16,7 @@ fn is_hit(target: Target, n: usize, node: Node) -> bool
     ensures { result ≡ hits target n node }
 {
     match (target, node) {
-        (Target::Node(i), _) => n == i as usize,
+        (Target::Node(i), _) => n == usize::from(i),
         (Target::Element(e), Node::Element(d)) => d == e,
         (Target::ElementFrom(e), Node::Element(d)) => e <= d,
         (Target::Mode(c, m), Node::InMode(d, k)) => d == c && k == m,
@@ -27,8 +28,7 @@ fn is_hit(target: Target, n: usize, node: Node) -> bool
 fn is_marked(table: &[bool], n: u8) -> bool
     ensures { result ≡ slice_index_or table.now n false }
 {
-    let n = n as usize;
-    n < table.len() && table[n]
+    table.get(usize::from(n)).copied().unwrap_or(false)
 }
 
 // Whether an operand of the node is marked.
@@ -47,24 +47,24 @@ fn has_marked_operand(table: &[bool], node: Node) -> bool
 }
 
 // The mark of node n, from the marks of the nodes before it.
-fn mark_of(nodes: &[[u8; NODE_BYTES]], target: Target, n: usize, table: &[bool]) -> bool
-    ensures { result ≡ mark nodes.now target n table.now }
+fn mark_of(sheet: &Layout, target: Target, n: usize, table: &[bool]) -> bool
+    ensures { result ≡ mark (rows_in_section (rows_of sheet.now) nodes) target n table.now }
 {
-    match row_at::<NODE_BYTES, Node>(nodes, n) {
-        Some(x) => is_hit(target, n, x) || has_marked_operand(table, x),
-        None => false,
-    }
+    let Some(node) = sheet.row(n) else {
+        return false;
+    };
+    is_hit(target, n, node) || has_marked_operand(table, node)
 }
 
 // Whether node n rests on the target.
-pub(crate) fn rests_on(nodes: &[[u8; NODE_BYTES]], target: Target, n: u8) -> bool
-    ensures { result ≡ mark nodes.now target n (marks nodes.now target n) }
+pub(crate) fn rests_on(sheet: &Layout, target: Target, n: u8) -> bool
+    ensures { result ≡ rests (rows_of sheet.now) target n }
 {
     let mut table = [false; NODE_NUMBERS];
-    let last = n as usize;
+    let last = usize::from(n);
+    // The number is needed: a mark is worked out from the marks before it.
     for i in 0..last {
-        let m = mark_of(nodes, target, i, &table[0..i]);
-        table[i] = m;
+        table[i] = mark_of(sheet, target, i, &table[0..i]);
     }
-    mark_of(nodes, target, last, &table[0..last])
+    mark_of(sheet, target, last, &table[0..last])
 }

@@ -1,13 +1,12 @@
 -- The start state of an accepted sheet is one of its states, and steps lead from states to states.
-use Rattle.std.proofs.Common.{◌≡◌, ℕ, zero, suc, ◌<◌, ◌≤◌, Bool, true, false, cond, not, ◌&&◌, eqb, leb, ◌⊎◌, List, [], ◌∷◌, map, length, get_or, set, ℤ, pos, Some, None, Option, sym, refl, ap, ◌∙◌, subst, inl, inr, ⊎_elim, arith}
+use Rattle.std.proofs.Common.{◌≡◌, ℕ, zero, suc, ◌<◌, ◌≤◌, Bool, true, false, cond, not, ◌&&◌, eqb, leb, ◌⊎◌, List, [], ◌∷◌, map, length, get_or, set, ℤ, pos, Some, None, Option, sym, refl, ap, ◌∙◌, subst, inl, inr, ⊎_elim, arith, Err, Ok}
 use lib.Signed.{le_z}
 use Rattle.std.proofs.lemmas.List.{length-set, length-map, get_or-set_same, get_or-set_other, set_past}
 use Rattle.std.proofs.lemmas.Int.{ints}
 use Rattle.std.proofs.lemmas.Bool.{true≢false, and_parts, and_from, leb-true, cases_lt, cases_eq, not-true, not_from_false, cond-false}
+use Rattle.sheet.specs.Entry.{Entry, malformed}
 use Rattle.sheet.specs.declared.rows.Component.{Component}
 use Rattle.sheet.specs.declared.rows.Element.{Element}
-use Rattle.sheet.specs.declared.rows.Entry.{Entry}
-use Rattle.sheet.specs.declared.rows.Entry.TheVariants.{Blank, Faulty, Holds}
 use Rattle.sheet.specs.declared.rows.Kind.{Kind}
 use Rattle.sheet.specs.declared.rows.Kind.TheVariants.{Held, Port}
 use Rattle.sheet.specs.declared.rows.Setting.{Setting}
@@ -60,12 +59,12 @@ by_kind_rests : (k c : ℕ) (l h v : ℤ) (x : Element) → held (element_by_kin
 by_kind_rests k c l h v x e =
     ⊎_elim
     (λ (p : held (element_of Held c l h v) ≡ Some x). element_of_rests Held c l h v x p)
-    (λ (p : held (cond (eqb k 2) (element_of Port c l h v) Faulty) ≡ Some x).
+    (λ (p : held (cond (eqb k 2) (element_of Port c l h v) (Err malformed)) ≡ Some x).
     ⊎_elim
     (λ (q : held (element_of Port c l h v) ≡ Some x). element_of_rests Port c l h v x q)
-    (λ (q : held {X = Element} Faulty ≡ Some x). no_pass x (sym q))
-    (held_either (eqb k 2) (element_of Port c l h v) Faulty x p))
-    (held_either (eqb k 1) (element_of Held c l h v) (cond (eqb k 2) (element_of Port c l h v) Faulty) x e)
+    (λ (q : held {X = Element} (Err malformed) ≡ Some x). no_pass x (sym q))
+    (held_either (eqb k 2) (element_of Port c l h v) (Err malformed) x p))
+    (held_either (eqb k 1) (element_of Held c l h v) (cond (eqb k 2) (element_of Port c l h v) (Err malformed)) x e)
 
 pub element_rests : (s : Sheet) (e : ℕ) (x : Element) → element_at s e ≡ Some x → in_range x x.rest ≡ true
 element_rests s e x h =
@@ -91,14 +90,14 @@ value_at_start None = pos 0
 value_at_start (Some x) = cond (is_port x) (pos 0) x.rest
 
 start_mode_held : (v : Entry Component) → start_mode v ≡ mode_at_start (held v)
-start_mode_held Blank = refl
-start_mode_held Faulty = refl
-start_mode_held (Holds x) = refl
+start_mode_held (Ok None) = refl
+start_mode_held (Err _) = refl
+start_mode_held (Ok (Some x)) = refl
 
 start_value_held : (v : Entry Element) → start_value v ≡ value_at_start (held v)
-start_value_held Blank = refl
-start_value_held Faulty = refl
-start_value_held (Holds x) = refl
+start_value_held (Ok None) = refl
+start_value_held (Err _) = refl
+start_value_held (Ok (Some x)) = refl
 
 unheld_zero : (o : Option Element) → is o (λ x. not (is_port x)) ≡ false → value_at_start o ≡ pos 0
 unheld_zero None e = refl

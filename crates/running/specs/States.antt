@@ -1,9 +1,8 @@
 -- A state of a sheet: a mode for each component and a value for each held element.
-use Rattle.std.specs.Prelude.{◌≡◌, ℕ, ◌≤◌, Bool, true, false, cond, not, ◌&&◌, List, map, length, ℤ, pos, Some, int_le, slice_index, slice_index_or, slice_set}
+use Rattle.std.specs.Prelude.{◌≡◌, ℕ, ◌≤◌, Bool, true, false, cond, not, ◌&&◌, List, map, length, ℤ, pos, Some, int_le, slice_index, slice_index_or, slice_set, Err, None, Ok}
+use Rattle.sheet.specs.Entry.{Entry, malformed}
 use Rattle.sheet.specs.declared.rows.Component.{Component}
 use Rattle.sheet.specs.declared.rows.Element.{Element}
-use Rattle.sheet.specs.declared.rows.Entry.{Entry}
-use Rattle.sheet.specs.declared.rows.Entry.TheVariants.{Blank, Faulty, Holds}
 use Rattle.sheet.specs.Lookup.{component_at, element_at, is}
 use Rattle.sheet.specs.Rules.{is_port}
 use Rattle.sheet.specs.Sections.{Sheet, rows, components, elements}
@@ -48,15 +47,15 @@ pub record StateOf (s : Sheet) (w : State) : Type 0 where
 
 -- the start mode of a component's row
 abbrev pub start_mode : Entry Component → ℕ
-start_mode Blank = 0
-start_mode Faulty = 0
-start_mode (Holds x) = x.start
+start_mode (Ok None) = 0
+start_mode (Err _) = 0
+start_mode (Ok (Some x)) = x.start
 
 -- the value of an element's row at the start
 abbrev pub start_value : Entry Element → ℤ
-start_value Blank = pos 0
-start_value Faulty = pos 0
-start_value (Holds x) = cond (is_port x) (pos 0) x.rest
+start_value (Ok None) = pos 0
+start_value (Err _) = pos 0
+start_value (Ok (Some x)) = cond (is_port x) (pos 0) x.rest
 
 -- The start state: the start modes, and the rest values of held elements.
 abbrev pub start_state : Sheet → State

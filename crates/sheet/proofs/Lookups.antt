@@ -3,7 +3,7 @@ use Rattle.std.proofs.Common.{◌≡◌, ℕ, zero, suc, ◌<◌, ◌≤◌, Boo
 use Rattle.std.proofs.lemmas.Option.{slice_get_read, slice_get_past}
 use Rattle.std.proofs.lemmas.Bool.{false≢true}
 use Rattle.std.specs.List.{slice_get}
-use Rattle.sheet.specs.declared.rows.Entry.{Entry}
+use Rattle.sheet.specs.Entry.{Entry}
 use Rattle.sheet.specs.Sections.{Row}
 use Rattle.sheet.specs.Lookup.{held, read_by, there, is}
 

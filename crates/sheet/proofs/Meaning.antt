@@ -1,10 +1,9 @@
 -- Rows are accepted exactly where they keep the rules.
-use Rattle.std.proofs.Common.{◌≡◌, ℕ, ◌<◌, ◌≤◌, true, not, List, [], length, get_or, is_some, Some, None, sym, refl, ap, ◌∙◌, ⊎_elim}
+use Rattle.std.proofs.Common.{◌≡◌, ℕ, ◌<◌, ◌≤◌, true, not, List, [], length, get_or, is_some, Some, None, sym, refl, ap, ◌∙◌, ⊎_elim, Err, Ok}
 use Rattle.std.proofs.lemmas.Option.{slice_get-get_or}
 use Rattle.std.proofs.lemmas.Bool.{and_parts, and_from, cases_lt}
+use Rattle.sheet.specs.Entry.{Entry, malformed}
 use Rattle.sheet.specs.declared.refusal.Reason.TheVariants.{WrongByItself, WrongByReference, Clash, ForbiddenResting}
-use Rattle.sheet.specs.declared.rows.Entry.{Entry}
-use Rattle.sheet.specs.declared.rows.Entry.TheVariants.{Blank, Faulty, Holds}
 use Rattle.sheet.specs.Sections.{Row, Sheet, rows, shapes, shaped, components, elements, events, nodes, flows, connections, transitions, settings, questions}
 use Rattle.sheet.specs.Tries.{must, first_fault}
 use Rattle.sheet.specs.Typed.{component_entry, element_entry, event_entry, node_entry, flow_entry, connection_entry, transition_entry, setting_entry, question_entry}
@@ -25,20 +24,20 @@ there_inside entry rs i x e =
     (λ (l : length rs ≤ i). no_pass x (sym e ∙ there_past entry rs i l))
     (cases_lt i (length rs))
 
-pub held_holds : {X : Type 0} (e : Entry X) (x : X) → held e ≡ Some x → e ≡ Holds x
-held_holds Blank x h = no_pass x (sym h)
-held_holds Faulty x h = no_pass x (sym h)
-held_holds (Holds y) x h = cc
+pub held_holds : {X : Type 0} (e : Entry X) (x : X) → held e ≡ Some x → e ≡ Ok (Some x)
+held_holds (Ok None) x h = no_pass x (sym h)
+held_holds (Err _) x h = no_pass x (sym h)
+held_holds (Ok (Some y)) x h = cc
 
 -- ---- one row
 
 module _ {X : Type 0} (s i : ℕ) (checks : X → Checks) where
-  row_not_faulty : (e : Entry X) → first_fault (entry_tries s i checks e) ≡ None → e ≡ Faulty → ⊥
+  row_not_faulty : (e : Entry X) → first_fault (entry_tries s i checks e) ≡ None → e ≡ Err malformed → ⊥
   row_not_faulty e h f = no_pass (refusal WrongByItself s i) (sym (ap (λ e. first_fault (entry_tries s i checks e)) f) ∙ h)
 
-  row_passes : (e : Entry X) (x : X) → first_fault (entry_tries s i checks e) ≡ None → e ≡ Holds x → Passes (checks x)
+  row_passes : (e : Entry X) (x : X) → first_fault (entry_tries s i checks e) ≡ None → e ≡ Ok (Some x) → Passes (checks x)
   row_passes e x h f =
-      let all : first_fault (entry_tries s i checks (Holds x)) ≡ None = sym (ap (λ e. first_fault (entry_tries s i checks e)) f) ∙ h in
+      let all : first_fault (entry_tries s i checks (Ok (Some x))) ≡ None = sym (ap (λ e. first_fault (entry_tries s i checks e)) f) ∙ h in
       let a = or_else_parts (must (checks x).names_right (refusal WrongByReference s i)) _ all in
       let b = or_else_parts (must (checks x).clash_free (refusal Clash s i)) _ a.1 in
       let c = or_else_parts (must (checks x).rests_right (refusal ForbiddenResting s i)) None b.1 in
@@ -48,10 +47,10 @@ module _ {X : Type 0} (s i : ℕ) (checks : X → Checks) where
         rests_right = must_passed (checks x).rests_right _ c.0;
       }
 
-  row_right : (e : Entry X) → (e ≡ Faulty → ⊥) → ((x : X) → e ≡ Holds x → Passes (checks x)) → first_fault (entry_tries s i checks e) ≡ None
-  row_right Blank n p = refl
-  row_right Faulty n p = absurd (n refl)
-  row_right (Holds x) n p =
+  row_right : (e : Entry X) → (e ≡ Err malformed → ⊥) → ((x : X) → e ≡ Ok (Some x) → Passes (checks x)) → first_fault (entry_tries s i checks e) ≡ None
+  row_right (Ok None) n p = refl
+  row_right (Err _) n p = absurd (n refl)
+  row_right (Ok (Some x)) n p =
       let q = p x refl in
       rw (must_pass (checks x).names_right (refusal WrongByReference s i) q.names_right, must_pass (checks x).clash_free (refusal Clash s i) q.clash_free, must_pass (checks x).rests_right (refusal ForbiddenResting s i) q.rests_right)
 

@@ -1,8 +1,7 @@
 -- Which bytes are a sheet, and which rows are those of one.
 use Rattle.std.specs.Prelude.{ℕ, ◌+◌, ◌*◌, Bool, not, ◌&&◌, List, [], ◌∷◌, ◌++◌, length, drop, is_some, Some, None, Ok, Err, Result, ◌==◌, nat_le, nat_lt, slice_index, slice_index_or}
 use Rattle.std.specs.Simd.{first_chunks}
-use Rattle.sheet.specs.declared.rows.Entry.{Entry}
-use Rattle.sheet.specs.declared.rows.Entry.TheVariants.{Blank, Faulty, Holds}
+use Rattle.sheet.specs.Entry.{Entry, malformed}
 use Rattle.sheet.specs.declared.refusal.Reason.{Reason}
 use Rattle.sheet.specs.declared.refusal.Reason.TheVariants.{EndsEarly, LeftOver, CountNotAllowed, WrongByItself, WrongByReference, Clash, ForbiddenResting}
 use Rattle.sheet.specs.declared.refusal.Refusal.{Refusal}
@@ -63,9 +62,9 @@ rows_in bs = sections_in shapes bs
 -- The tries of a row by what it says: nothing is tried of a blank row; what a row holds is tried by what it names, for a
 -- clash, and by what it rests on, in this order.
 abbrev pub entry_tries : {X : Type 0} → (section row : ℕ) → (X → Checks) → Entry X → List (Try Refusal)
-entry_tries s i checks Blank = []
-entry_tries s i checks Faulty = Some (refusal WrongByItself s i) ∷ []
-entry_tries s i checks (Holds x) =
+entry_tries s i checks (Ok None) = []
+entry_tries s i checks (Err _) = Some (refusal WrongByItself s i) ∷ []
+entry_tries s i checks (Ok (Some x)) =
     must (checks x).names_right (refusal WrongByReference s i)
     ∷ must (checks x).clash_free (refusal Clash s i)
     ∷ must (checks x).rests_right (refusal ForbiddenResting s i)

@@ -1,8 +1,7 @@
 -- Laws of acceptance that contracts cite.
 use Rattle.std.specs.Prelude.{◌≡◌, ℕ, ◌<◌, true, List, [], length, Some, Ok, Err, Decides, Result, ◌≢◌, slice_index_or}
+use Rattle.sheet.specs.Entry.{Entry, malformed}
 use Rattle.sheet.specs.declared.refusal.Refusal.{Refusal}
-use Rattle.sheet.specs.declared.rows.Entry.{Entry}
-use Rattle.sheet.specs.declared.rows.Entry.TheVariants.{Faulty}
 use Rattle.sheet.specs.declared.rows.Target.{Target}
 use Rattle.sheet.specs.Sections.{Row, Sheet, rows, shapes, shaped, components, elements, events, nodes, flows, connections, transitions, settings, questions, bytes_of}
 use Rattle.sheet.specs.Typed.{component_entry, element_entry, event_entry, node_entry, flow_entry, connection_entry, transition_entry, setting_entry, question_entry}
@@ -34,7 +33,7 @@ pub record Passes (c : Checks) : Type 0 where
 
 -- The rows of a section keep its rules: none is faulty by itself, and what each row holds passes.
 pub record Right {X : Type 0} (entry : Row → Entry X) (checks : ℕ → X → Checks) (rs : List Row) : Type 0 where
-  pub not_faulty : (i : ℕ) → i < length rs → entry (slice_index_or rs i []) ≢ Faulty
+  pub not_faulty : (i : ℕ) → i < length rs → entry (slice_index_or rs i []) ≢ Err malformed
   pub passes : (i : ℕ) (x : X) → there entry rs i ≡ Some x → Passes (checks i x)
 
 -- What acceptance means: the sections have their shapes, and each keeps its rules.

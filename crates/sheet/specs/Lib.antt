@@ -1,5 +1,6 @@
 pub mod Accept
 pub mod Cells
+pub mod Entry
 pub mod Laws
 pub mod Lookup
 pub mod Resting

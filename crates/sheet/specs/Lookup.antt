@@ -1,8 +1,7 @@
 -- The rows of a sheet by their numbers, as typed values. A row that is missing, blank or faulty is not there.
-use Rattle.std.specs.Prelude.{ℕ, Bool, false, List, Some, None, Option}
+use Rattle.std.specs.Prelude.{ℕ, Bool, false, List, Some, None, Option, Err, Ok}
 use Rattle.std.specs.List.{slice_get}
-use Rattle.sheet.specs.declared.rows.Entry.{Entry}
-use Rattle.sheet.specs.declared.rows.Entry.TheVariants.{Blank, Faulty, Holds}
+use Rattle.sheet.specs.Entry.{Entry, malformed}
 use Rattle.sheet.specs.declared.rows.Component.{Component}
 use Rattle.sheet.specs.declared.rows.Connection.{Connection}
 use Rattle.sheet.specs.declared.rows.Element.{Element}
@@ -17,9 +16,8 @@ use Rattle.sheet.specs.Typed.{component_entry, element_entry, event_entry, node_
 
 -- what a row holds, if anything
 abbrev pub held : {X : Type 0} → Entry X → Option X
-held Blank = None
-held Faulty = None
-held (Holds x) = Some x
+held (Ok o) = o
+held (Err f) = None
 
 -- what a row holds that may be missing
 abbrev pub read_by : {X : Type 0} → (Row → Entry X) → Option Row → Option X

@@ -1,7 +1,7 @@
 -- What makes a row right that is neither blank nor faulty by itself: what it names is there and fits, it does not clash
 -- with an earlier row, and it rests on nothing forbidden.
 use Rattle.std.specs.Prelude.{ℕ, zero, suc, ◌+◌, ◌^◌, Bool, true, false, not, ◌&&◌, ◌||◌, ltb, List, is_some, Some, None, Option, ◌==◌, bit_and, nat_eq, nat_le, nat_lt}
-use Rattle.sheet.specs.declared.rows.Entry.{Entry}
+use Rattle.sheet.specs.Entry.{Entry}
 use Rattle.sheet.specs.declared.rows.Component.{Component}
 use Rattle.sheet.specs.declared.rows.Kind.{Kind}
 use Rattle.sheet.specs.declared.rows.Kind.TheVariants.{Held, Port}
@@ -126,12 +126,15 @@ share_mode x y = not (bit_and x y == 0)
 abbrev pub flows_clash : Flow → Flow → Bool
 flows_clash x y = x.port == y.port && share_mode x.modes y.modes
 
+abbrev pub flow_names : Sheet → Flow → Bool
+flow_names s x = is (element_at s x.port) (λ p. is_port p && has_modes s p.component x.modes) && value_node s x.node
+
 -- A flow leads from a value node to a port, in modes of the port's component. Two flows to one port share no mode. The
 -- node rests only on elements with lower numbers than the port.
 abbrev pub flow_checks : Sheet → ℕ → Flow → Checks
 flow_checks s i x =
     record {
-      names_right = is (element_at s x.port) (λ p. is_port p && has_modes s p.component x.modes) && value_node s x.node;
+      names_right = flow_names s x;
       clash_free = clear_of_earlier flow_entry flows_clash (rows s flows) i x;
       rests_right = not (rests s (ElementFrom x.port) x.node);
     }

@@ -1,15 +1,16 @@
--- What the bytes of a row say, section by section: blank, faulty by itself, or a typed value.
-use Rattle.std.specs.Prelude.{ℕ, zero, suc, ◌+◌, ◌*◌, ◌%◌, Bool, true, false, cond, not, ◌&&◌, ℤ, Some, None, Option, ◌==◌, int_le, nat_le, slice_index}
+-- What the bytes of a row say, section by section: blank, malformed, or a typed value.
+use Rattle.std.specs.Prelude.{ℕ, zero, suc, ◌+◌, ◌*◌, ◌%◌, Bool, true, false, cond, not, ◌&&◌, ℤ, Some, None, Option, Result, ◌==◌, int_le, nat_le, slice_index, Err, Ok}
 use Rattle.std.specs.Int.{w16}
 use Rattle.std.proofs.Common.{to_z}
-use Rattle.sheet.specs.declared.rows.Entry.{Entry}
-use Rattle.sheet.specs.declared.rows.Entry.TheVariants.{Blank, Faulty, Holds}
+use Rattle.sheet.specs.Entry.{Entry, malformed}
 use Rattle.sheet.specs.declared.rows.Component.{Component}
 use Rattle.sheet.specs.declared.rows.Kind.{Kind}
 use Rattle.sheet.specs.declared.rows.Kind.TheVariants.{Held, Port}
 use Rattle.sheet.specs.declared.rows.Element.{Element}
+use Rattle.sheet.specs.declared.rows.Direction.{Direction}
 use Rattle.sheet.specs.declared.rows.Direction.TheVariants.{Out, In}
 use Rattle.sheet.specs.declared.rows.Event.{Event}
+use Rattle.sheet.specs.declared.rows.Malformed.{Malformed}
 use Rattle.sheet.specs.declared.rows.Node.{Node}
 use Rattle.sheet.specs.declared.rows.Node.TheVariants.{Constant, Element as Reading, Sum, Difference, True, Equal, Less, Not, And, InMode}
 use Rattle.sheet.specs.declared.rows.Flow.{Flow}
@@ -38,12 +39,12 @@ zeros (suc n) r = zeros n r && at r n == 0
 
 -- the value, if the test is passed
 abbrev pub holds_if : {X : Type 0} → Bool → X → Entry X
-holds_if true x = Holds x
-holds_if false x = Faulty
+holds_if true x = Ok (Some x)
+holds_if false x = Err malformed
 
 -- a row of zeros is blank; what any other row holds is given
 abbrev pub blank_or : {X : Type 0} → Bool → Entry X → Entry X
-blank_or true e = Blank
+blank_or true e = Ok None
 blank_or false e = e
 
 -- A component: number of modes, from 1 to 15, and start mode. It is never blank.
@@ -54,15 +55,21 @@ component_entry r = holds_if (nat_le 1 (at r 0) && (nat_le (at r 0) 15 && nat_le
 abbrev pub element_of : Kind → ℕ → (lowest highest rest : ℤ) → Entry Element
 element_of k c l h v = holds_if (int_le l v && int_le v h) (record { kind = k; component = c; lowest = l; highest = h; rest = v })
 
+abbrev pub kind_numbered : ℕ → Result Kind Malformed
+kind_numbered k = cond (k == 1) (Ok Held) (cond (k == 2) (Ok Port) (Err malformed))
+
 abbrev pub element_by_kind : (kind component : ℕ) → (lowest highest rest : ℤ) → Entry Element
-element_by_kind k c l h v = cond (k == 1) (element_of Held c l h v) (cond (k == 2) (element_of Port c l h v) Faulty)
+element_by_kind k c l h v = cond (k == 1) (element_of Held c l h v) (cond (k == 2) (element_of Port c l h v) (Err malformed))
 
 abbrev pub element_entry : Row → Entry Element
 element_entry r = blank_or (zeros 8 r) (element_by_kind (at r 0) (at r 1) (number (at r 2) (at r 3)) (number (at r 4) (at r 5)) (number (at r 6) (at r 7)))
 
 -- An event: direction (1 out, 2 in) and component.
+abbrev pub direction_numbered : ℕ → Result Direction Malformed
+direction_numbered d = cond (d == 1) (Ok Out) (cond (d == 2) (Ok In) (Err malformed))
+
 abbrev pub event_by_direction : (direction component : ℕ) → Entry Event
-event_by_direction d c = cond (d == 1) (Holds (record { direction = Out; component = c })) (cond (d == 2) (Holds (record { direction = In; component = c })) Faulty)
+event_by_direction d c = cond (d == 1) (Ok (Some (record { direction = Out; component = c }))) (cond (d == 2) (Ok (Some (record { direction = In; component = c }))) (Err malformed))
 
 abbrev pub event_entry : Row → Entry Event
 event_entry r = blank_or (zeros 2 r) (event_by_direction (at r 0) (at r 1))
@@ -79,7 +86,7 @@ node_by_kind kind a b c =
     (cond (kind == 18) (holds_if (c == 0) (Less a b))
     (cond (kind == 19) (holds_if (b == 0 && c == 0) (Not a))
     (cond (kind == 20) (holds_if (c == 0) (And a b))
-    (cond (kind == 21) (holds_if (nat_le 1 b && c == 0) (InMode a b)) Faulty)))))))))
+    (cond (kind == 21) (holds_if (nat_le 1 b && c == 0) (InMode a b)) (Err malformed))))))))))
 
 abbrev pub node_entry : Row → Entry Node
 node_entry r = blank_or (zeros 4 r) (node_by_kind (at r 0) (at r 1) (at r 2) (at r 3))
@@ -114,8 +121,8 @@ transition_entry r = blank_or (zeros 5 r) (transition_of (at r 0) (at r 1) (at r
 
 -- A setting: transition, element and node. It is blank as FF 00 00, and never faulty by itself.
 abbrev pub setting_entry : Row → Entry Setting
-setting_entry r = blank_or (at r 0 == 255 && (at r 1 == 0 && at r 2 == 0)) (Holds (record { transition = at r 0; element = at r 1; node = at r 2 }))
+setting_entry r = blank_or (at r 0 == 255 && (at r 1 == 0 && at r 2 == 0)) (Ok (Some (record { transition = at r 0; element = at r 1; node = at r 2 })))
 
 -- A question: node. It is blank as FF, and never faulty by itself.
 abbrev pub question_entry : Row → Entry Question
-question_entry r = blank_or (at r 0 == 255) (Holds (record { node = at r 0 }))
+question_entry r = blank_or (at r 0 == 255) (Ok (Some (record { node = at r 0 })))

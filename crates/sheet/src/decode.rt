@@ -1,17 +1,24 @@
 // Rows as their bytes, read as typed values.
 
-ghost use Rattle.std.specs.Prelude.{◌≡◌, ℕ, ◌+◌, ◌*◌, ◌%◌, List};
-ghost use Rattle.sheet.specs.declared.rows.Entry.{Entry};
+ghost use Rattle.std.specs.Prelude.{◌≡◌, ℕ, ◌+◌, ◌*◌, ◌%◌, ◌<◌, List, Option, Result, slice_index_or};
+ghost use Rattle.sheet.specs.declared.refusal.Reason.TheVariants.{WrongByItself};
+ghost use Rattle.sheet.specs.declared.rows.Malformed.{Malformed};
 ghost use Rattle.sheet.specs.Lookup.{there};
-ghost use Rattle.sheet.specs.Typed.{number, mode_set, zeros, listing, component_entry, element_entry, event_entry, node_entry, flow_entry, connection_entry, transition_entry, setting_entry, question_entry};
+ghost use Rattle.sheet.specs.Sections.{shape, shapes, width_of};
+ghost use Rattle.sheet.specs.Typed.{number, mode_set, zeros, listing, kind_numbered, direction_numbered, component_entry, element_entry, event_entry, node_entry, flow_entry, connection_entry, transition_entry, setting_entry, question_entry};
+ghost use Rattle.std.proofs.Common.{rules};
 
+use crate::refusal::Reason;
 use crate::rows::{
-    Component, Connection, Direction, Element, Entry, Event, Flow, Kind, ModeSet, Node, Question,
-    Setting, Transition,
+    Component, Connection, Direction, Element, Event, Flow, Kind, Malformed, ModeSet, Node,
+    Question, Setting, Transition,
 };
 use crate::sizes::{
-    COMPONENT_BYTES, CONNECTION_BYTES, ELEMENT_BYTES, EVENT_BYTES, FLOW_BYTES, NODE_BYTES,
-    QUESTION_BYTES, SETTING_BYTES, TRANSITION_BYTES,
+    COMPONENT_BYTES, COMPONENTS, CONNECTION_BYTES, CONNECTIONS, ELEMENT_BYTES, ELEMENTS,
+    EVENT_BYTES, EVENTS, FLOW_BYTES, FLOWS, MOST_COMPONENTS, MOST_CONNECTIONS, MOST_ELEMENTS,
+    MOST_EVENTS, MOST_FLOWS, MOST_NODES, MOST_QUESTIONS, MOST_SETTINGS, MOST_TRANSITIONS,
+    NODE_BYTES, NODES, QUESTION_BYTES, QUESTIONS, SETTING_BYTES, SETTINGS, TRANSITION_BYTES,
+    TRANSITIONS,
 };
 
 // A number of two bytes in two's complement.
@@ -35,213 +42,420 @@ fn lists_modes(set: ModeSet) -> bool
     set != 0 && set % 2 == 0
 }
 
-// A typed value of a row of N bytes.
-pub trait FromRow<const N: usize>: Copy {
-    // What the bytes of a row say.
-    ghost entry: { List ℕ → Entry Self };
+impl From<Malformed> for Reason {
+    ghost from_gives = { λ _ y. y ≡ WrongByItself };
 
-    fn from_row(row: &[u8; N]) -> Entry<Self>
-        ensures { result ≡ entry row.now };
+    fn from(_e: Malformed) -> Reason {
+        Reason::WrongByItself
+    }
 }
 
-// What row i holds; nothing where it is missing, blank or faulty.
+// A typed value of a row of N bytes.
+pub trait FromRow<const N: usize>: Copy {
+    // The section that its rows stand in.
+    const SECTION: usize;
+
+    ghost SECTION: { ℕ };
+    // The least and the most rows of that section.
+    const LEAST: u8;
+
+    const MOST: u8;
+
+    ghost LEAST: { ℕ };
+
+    ghost MOST: { ℕ };
+    // What the bytes of a row say.
+    ghost entry: { List ℕ → Result (Option Self) Malformed };
+
+    // What a row holds; nothing where it is blank.
+    fn from_row(row: &[u8; N]) -> Result<Option<Self>, Malformed>
+        ensures { result ≡ entry row.now };
+
+    ghost inside: { SECTION < 9 };
+
+    ghost shaped: { slice_index_or shapes SECTION (shape 0 0 0) ≡ shape N LEAST MOST };
+
+    ghost wide: { width_of SECTION ≡ N };
+
+    ghost some: { 0 < N };
+}
+
+// What row i holds; nothing where it is missing, blank or malformed.
 pub fn row_at<const N: usize, R: FromRow<N>>(rows: &[[u8; N]], i: usize) -> Option<R>
     ensures { result ≡ there R.FromRow.entry rows.now i }
 {
-    if i >= rows.len() {
-        return None;
-    }
-    match R::from_row(&rows[i]) {
-        Entry::Blank | Entry::Faulty => None,
-        Entry::Holds(x) => Some(x),
-    }
+    R::from_row(rows.get(i)?).unwrap_or(None)
 }
 
 impl FromRow<COMPONENT_BYTES> for Component {
+    const SECTION: usize = COMPONENTS;
+
+    const LEAST: u8 = 1;
+
+    const MOST: u8 = MOST_COMPONENTS;
+
+    ghost SECTION = { 0 };
+
+    ghost LEAST = { 1 };
+
+    ghost MOST = { 16 };
+
     ghost entry = { component_entry };
 
-    fn from_row(row: &[u8; COMPONENT_BYTES]) -> Entry<Component>
-        ensures { result ≡ component_entry row.now }
-    {
+    ghost inside = { Prim.search rules };
+
+    ghost shaped = { Prim.search rules };
+
+    ghost wide = { Prim.search rules };
+
+    ghost some = { Prim.search rules };
+
+    fn from_row(row: &[u8; COMPONENT_BYTES]) -> Result<Option<Component>, Malformed> {
         let [modes, start] = *row;
         if 1 <= modes && modes <= 15 && start <= modes {
-            Entry::Holds(Component { modes, start })
+            Ok(Some(Component { modes, start }))
         } else {
-            Entry::Faulty
+            Err(Malformed)
+        }
+    }
+}
+
+impl TryFrom<u8> for Kind {
+    type Error = Malformed;
+
+    ghost try_from_gives = { λ n r. r ≡ kind_numbered n };
+
+    fn try_from(number: u8) -> Result<Kind, Malformed> {
+        match number {
+            1 => Ok(Kind::Held),
+            2 => Ok(Kind::Port),
+            _ => Err(Malformed),
         }
     }
 }
 
 impl FromRow<ELEMENT_BYTES> for Element {
+    const SECTION: usize = ELEMENTS;
+
+    const LEAST: u8 = 0;
+
+    const MOST: u8 = MOST_ELEMENTS;
+
+    ghost SECTION = { 1 };
+
+    ghost LEAST = { 0 };
+
+    ghost MOST = { 64 };
+
     ghost entry = { element_entry };
 
-    fn from_row(row: &[u8; ELEMENT_BYTES]) -> Entry<Element>
-        ensures { result ≡ element_entry row.now }
-    {
+    ghost inside = { Prim.search rules };
+
+    ghost shaped = { Prim.search rules };
+
+    ghost wide = { Prim.search rules };
+
+    ghost some = { Prim.search rules };
+
+    fn from_row(row: &[u8; ELEMENT_BYTES]) -> Result<Option<Element>, Malformed> {
         let [kind, component, l0, l1, h0, h1, r0, r1] = *row;
         if let [0, 0, 0, 0, 0, 0, 0, 0] = *row {
-            return Entry::Blank;
+            return Ok(None);
         }
-        let kind = match kind {
-            1 => Kind::Held,
-            2 => Kind::Port,
-            _ => return Entry::Faulty,
-        };
+        let kind = Kind::try_from(kind)?;
         let lowest = number_of(l0, l1);
         let highest = number_of(h0, h1);
         let rest = number_of(r0, r1);
         if lowest <= rest && rest <= highest {
-            Entry::Holds(Element {
+            Ok(Some(Element {
                 kind,
                 component,
                 lowest,
                 highest,
                 rest,
-            })
+            }))
         } else {
-            Entry::Faulty
+            Err(Malformed)
+        }
+    }
+}
+
+impl TryFrom<u8> for Direction {
+    type Error = Malformed;
+
+    ghost try_from_gives = { λ n r. r ≡ direction_numbered n };
+
+    fn try_from(number: u8) -> Result<Direction, Malformed> {
+        match number {
+            1 => Ok(Direction::Out),
+            2 => Ok(Direction::In),
+            _ => Err(Malformed),
         }
     }
 }
 
 impl FromRow<EVENT_BYTES> for Event {
+    const SECTION: usize = EVENTS;
+
+    const LEAST: u8 = 0;
+
+    const MOST: u8 = MOST_EVENTS;
+
+    ghost SECTION = { 2 };
+
+    ghost LEAST = { 0 };
+
+    ghost MOST = { 64 };
+
     ghost entry = { event_entry };
 
-    fn from_row(row: &[u8; EVENT_BYTES]) -> Entry<Event>
-        ensures { result ≡ event_entry row.now }
-    {
-        match *row {
-            [0, 0] => Entry::Blank,
-            [1, component] => Entry::Holds(Event {
-                direction: Direction::Out,
-                component,
-            }),
-            [2, component] => Entry::Holds(Event {
-                direction: Direction::In,
-                component,
-            }),
-            _ => Entry::Faulty,
+    ghost inside = { Prim.search rules };
+
+    ghost shaped = { Prim.search rules };
+
+    ghost wide = { Prim.search rules };
+
+    ghost some = { Prim.search rules };
+
+    fn from_row(row: &[u8; EVENT_BYTES]) -> Result<Option<Event>, Malformed> {
+        if let [0, 0] = *row {
+            return Ok(None);
         }
+        let [direction, component] = *row;
+        let direction = Direction::try_from(direction)?;
+        Ok(Some(Event {
+            direction,
+            component,
+        }))
     }
 }
 
 impl FromRow<NODE_BYTES> for Node {
+    const SECTION: usize = NODES;
+
+    const LEAST: u8 = 0;
+
+    const MOST: u8 = MOST_NODES;
+
+    ghost SECTION = { 3 };
+
+    ghost LEAST = { 0 };
+
+    ghost MOST = { 128 };
+
     ghost entry = { node_entry };
 
-    fn from_row(row: &[u8; NODE_BYTES]) -> Entry<Node>
-        ensures { result ≡ node_entry row.now }
-    {
+    ghost inside = { Prim.search rules };
+
+    ghost shaped = { Prim.search rules };
+
+    ghost wide = { Prim.search rules };
+
+    ghost some = { Prim.search rules };
+
+    fn from_row(row: &[u8; NODE_BYTES]) -> Result<Option<Node>, Malformed> {
         let [kind, a, b, c] = *row;
-        match kind {
-            0 if a == 0 && b == 0 && c == 0 => Entry::Blank,
-            1 if c == 0 => Entry::Holds(Node::Constant(number_of(a, b))),
-            2 if b == 0 && c == 0 => Entry::Holds(Node::Element(a)),
-            3 if c == 0 => Entry::Holds(Node::Sum(a, b)),
-            4 if c == 0 => Entry::Holds(Node::Difference(a, b)),
-            16 if a == 0 && b == 0 && c == 0 => Entry::Holds(Node::True),
-            17 if c == 0 => Entry::Holds(Node::Equal(a, b)),
-            18 if c == 0 => Entry::Holds(Node::Less(a, b)),
-            19 if b == 0 && c == 0 => Entry::Holds(Node::Not(a)),
-            20 if c == 0 => Entry::Holds(Node::And(a, b)),
-            21 if b >= 1 && c == 0 => Entry::Holds(Node::InMode(a, b)),
-            _ => Entry::Faulty,
-        }
+        let node = match kind {
+            0 if a == 0 && b == 0 && c == 0 => return Ok(None),
+            1 if c == 0 => Node::Constant(number_of(a, b)),
+            2 if b == 0 && c == 0 => Node::Element(a),
+            3 if c == 0 => Node::Sum(a, b),
+            4 if c == 0 => Node::Difference(a, b),
+            16 if a == 0 && b == 0 && c == 0 => Node::True,
+            17 if c == 0 => Node::Equal(a, b),
+            18 if c == 0 => Node::Less(a, b),
+            19 if b == 0 && c == 0 => Node::Not(a),
+            20 if c == 0 => Node::And(a, b),
+            21 if b >= 1 && c == 0 => Node::InMode(a, b),
+            _ => return Err(Malformed),
+        };
+        Ok(Some(node))
     }
 }
 
 impl FromRow<FLOW_BYTES> for Flow {
+    const SECTION: usize = FLOWS;
+
+    const LEAST: u8 = 0;
+
+    const MOST: u8 = MOST_FLOWS;
+
+    ghost SECTION = { 4 };
+
+    ghost LEAST = { 0 };
+
+    ghost MOST = { 64 };
+
     ghost entry = { flow_entry };
 
-    fn from_row(row: &[u8; FLOW_BYTES]) -> Entry<Flow>
-        ensures { result ≡ flow_entry row.now }
-    {
+    ghost inside = { Prim.search rules };
+
+    ghost shaped = { Prim.search rules };
+
+    ghost wide = { Prim.search rules };
+
+    ghost some = { Prim.search rules };
+
+    fn from_row(row: &[u8; FLOW_BYTES]) -> Result<Option<Flow>, Malformed> {
         if let [0, 0, 0, 0] = *row {
-            return Entry::Blank;
+            return Ok(None);
         }
         let [port, node, m0, m1] = *row;
         let modes = mode_set_of(m0, m1);
         if lists_modes(modes) {
-            Entry::Holds(Flow { port, node, modes })
+            Ok(Some(Flow { port, node, modes }))
         } else {
-            Entry::Faulty
+            Err(Malformed)
         }
     }
 }
 
 impl FromRow<CONNECTION_BYTES> for Connection {
+    const SECTION: usize = CONNECTIONS;
+
+    const LEAST: u8 = 0;
+
+    const MOST: u8 = MOST_CONNECTIONS;
+
+    ghost SECTION = { 5 };
+
+    ghost LEAST = { 0 };
+
+    ghost MOST = { 64 };
+
     ghost entry = { connection_entry };
 
-    fn from_row(row: &[u8; CONNECTION_BYTES]) -> Entry<Connection>
-        ensures { result ≡ connection_entry row.now }
-    {
+    ghost inside = { Prim.search rules };
+
+    ghost shaped = { Prim.search rules };
+
+    ghost wide = { Prim.search rules };
+
+    ghost some = { Prim.search rules };
+
+    fn from_row(row: &[u8; CONNECTION_BYTES]) -> Result<Option<Connection>, Malformed> {
         if let [0, 0, 0, 0, 0] = *row {
-            return Entry::Blank;
+            return Ok(None);
         }
         let [out_event, in_event, owner, m0, m1] = *row;
         let modes = mode_set_of(m0, m1);
         if lists_modes(modes) {
-            Entry::Holds(Connection {
+            Ok(Some(Connection {
                 out_event,
                 in_event,
                 owner,
                 modes,
-            })
+            }))
         } else {
-            Entry::Faulty
+            Err(Malformed)
         }
     }
 }
 
 impl FromRow<TRANSITION_BYTES> for Transition {
+    const SECTION: usize = TRANSITIONS;
+
+    const LEAST: u8 = 0;
+
+    const MOST: u8 = MOST_TRANSITIONS;
+
+    ghost SECTION = { 6 };
+
+    ghost LEAST = { 0 };
+
+    ghost MOST = { 64 };
+
     ghost entry = { transition_entry };
 
-    fn from_row(row: &[u8; TRANSITION_BYTES]) -> Entry<Transition>
-        ensures { result ≡ transition_entry row.now }
-    {
+    ghost inside = { Prim.search rules };
+
+    ghost shaped = { Prim.search rules };
+
+    ghost wide = { Prim.search rules };
+
+    ghost some = { Prim.search rules };
+
+    fn from_row(row: &[u8; TRANSITION_BYTES]) -> Result<Option<Transition>, Malformed> {
         if let [0, 0, 0, 0, 0] = *row {
-            return Entry::Blank;
+            return Ok(None);
         }
         let [component, from, to, event, guard] = *row;
         if from == 0 {
-            return Entry::Faulty;
+            return Err(Malformed);
         }
         let event = if event == 255 { None } else { Some(event) };
-        Entry::Holds(Transition {
+        Ok(Some(Transition {
             component,
             from,
             to,
             event,
             guard,
-        })
+        }))
     }
 }
 
 impl FromRow<SETTING_BYTES> for Setting {
+    const SECTION: usize = SETTINGS;
+
+    const LEAST: u8 = 0;
+
+    const MOST: u8 = MOST_SETTINGS;
+
+    ghost SECTION = { 7 };
+
+    ghost LEAST = { 0 };
+
+    ghost MOST = { 128 };
+
     ghost entry = { setting_entry };
 
-    fn from_row(row: &[u8; SETTING_BYTES]) -> Entry<Setting>
-        ensures { result ≡ setting_entry row.now }
-    {
+    ghost inside = { Prim.search rules };
+
+    ghost shaped = { Prim.search rules };
+
+    ghost wide = { Prim.search rules };
+
+    ghost some = { Prim.search rules };
+
+    fn from_row(row: &[u8; SETTING_BYTES]) -> Result<Option<Setting>, Malformed> {
         match *row {
-            [255, 0, 0] => Entry::Blank,
-            [transition, element, node] => Entry::Holds(Setting {
+            [255, 0, 0] => Ok(None),
+            [transition, element, node] => Ok(Some(Setting {
                 transition,
                 element,
                 node,
-            }),
+            })),
         }
     }
 }
 
 impl FromRow<QUESTION_BYTES> for Question {
+    const SECTION: usize = QUESTIONS;
+
+    const LEAST: u8 = 0;
+
+    const MOST: u8 = MOST_QUESTIONS;
+
+    ghost SECTION = { 8 };
+
+    ghost LEAST = { 0 };
+
+    ghost MOST = { 16 };
+
     ghost entry = { question_entry };
 
-    fn from_row(row: &[u8; QUESTION_BYTES]) -> Entry<Question>
-        ensures { result ≡ question_entry row.now }
-    {
+    ghost inside = { Prim.search rules };
+
+    ghost shaped = { Prim.search rules };
+
+    ghost wide = { Prim.search rules };
+
+    ghost some = { Prim.search rules };
+
+    fn from_row(row: &[u8; QUESTION_BYTES]) -> Result<Option<Question>, Malformed> {
         match *row {
-            [255] => Entry::Blank,
-            [node] => Entry::Holds(Question { node }),
+            [255] => Ok(None),
+            [node] => Ok(Some(Question { node })),
         }
     }
 }

@@ -1,4 +1,22 @@
-// The sizes of the format: the bytes of a row of each section, and the most rows.
+// The sizes of the format: the numbers of the sections, the bytes of a row of each, and the most rows.
+
+pub const COMPONENTS: usize = 0;
+
+pub const ELEMENTS: usize = 1;
+
+pub const EVENTS: usize = 2;
+
+pub const NODES: usize = 3;
+
+pub const FLOWS: usize = 4;
+
+pub const CONNECTIONS: usize = 5;
+
+pub const TRANSITIONS: usize = 6;
+
+pub const SETTINGS: usize = 7;
+
+pub const QUESTIONS: usize = 8;
 
 pub const COMPONENT_BYTES: usize = 2;
 
@@ -38,6 +56,7 @@ pub const MOST_QUESTIONS: u8 = 16;
 
 // The number of sections.
 pub const SECTIONS: usize = 9;
+
 // The ends of the number range.
 pub const LEAST_NUMBER: i32 = -32768;
 

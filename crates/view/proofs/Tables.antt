@@ -9,7 +9,7 @@ use Rattle.sheet.specs.Accept.{accepted}
 use Rattle.sheet.specs.Lookup.{held, read_by, there}
 use Rattle.sheet.specs.Sections.{Row, Sheet, rows, nodes, elements}
 use Rattle.sheet.specs.Tables.{grow}
-use Rattle.sheet.specs.Typed.{flow_entry}
+use Rattle.sheet.specs.Typed.{flow_entry, node_entry}
 use Rattle.sheet.proofs.Lookups.{there_past}
 use Rattle.sheet.proofs.Shapes.{sized}
 use Rattle.sheet.proofs.Tables.{length_grow, grow_at, grow_more, take_grow}
@@ -47,7 +47,7 @@ node_table s w vs table a e n =
     (λ (l : 128 ≤ n).
     let f = node_cell s w vs in
     let few = (sized s nodes a (omega arith)).few in
-    get_or_past (grow f 128) n nothing (omega (arith, length_grow f 128)) ∙ sym (ap (evaluated_if w vs (grow f n)) (there_past _ (rows s nodes) n (omega arith))))
+    get_or_past (grow f 128) n nothing (omega (arith, length_grow f 128)) ∙ sym (ap (evaluated_if w vs (grow f n)) (there_past node_entry (rows s nodes) n (omega arith))))
     (cases_lt n 128)
 
 -- ---- the flow in force, row by row

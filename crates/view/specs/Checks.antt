@@ -1,18 +1,29 @@
 -- The checks of a step whose transitions are there, and what a step changes, one thing at a time.
-use Rattle.std.specs.Prelude.{ℕ, Bool, cond, not, ◌&&◌, List, [], ◌∷◌, ℤ, is_some, Some, None, Option, ◌==◌, slice_index_or, slice_set}
+use Rattle.std.specs.Prelude.{ℕ, Bool, cond, not, ◌&&◌, List, [], ◌∷◌, ℤ, is_some, Some, None, ok_or, Option, Result, ◌==◌, slice_index_or, slice_set}
+use Rattle.sheet.specs.declared.rows.Direction.{Direction}
+use Rattle.sheet.specs.declared.rows.Direction.TheVariants.{Out, In}
 use Rattle.sheet.specs.declared.rows.Element.{Element}
 use Rattle.sheet.specs.declared.rows.Setting.{Setting}
 use Rattle.sheet.specs.declared.rows.Transition.{Transition}
-use Rattle.sheet.specs.Lookup.{element_at, is}
+use Rattle.sheet.specs.Lookup.{element_at, transition_at, is}
 use Rattle.sheet.specs.Rules.{is_port}
 use Rattle.sheet.specs.Sections.{Sheet, rows, connections}
 use Rattle.sheet.specs.Tries.{Try, must, first_fault}
 use Rattle.running.specs.declared.kinds.Worth.{Worth}
 use Rattle.running.specs.declared.kinds.StepRefusal.{StepRefusal}
-use Rattle.running.specs.declared.kinds.StepRefusal.TheVariants.{NoStep, OtherMode, NotConnected, GuardFalse}
+use Rattle.running.specs.declared.kinds.StepRefusal.TheVariants.{NoTransition, NoStep, OtherMode, NotConnected, GuardFalse}
 use Rattle.running.specs.States.{State, mode_of}
 use Rattle.running.specs.Steps.{sends, hears, any_carries, takes_part}
 use Rattle.running.specs.Values.{bring, number_in, truth_in, nothing, node_value}
+
+-- a transition, or that it is missing or blank
+abbrev pub transition_or_refusal : Sheet → ℕ → Result Transition StepRefusal
+transition_or_refusal s t = ok_or (transition_at s t) (NoTransition t)
+
+-- there is an event, and it goes that way
+abbrev pub goes : Sheet → Direction → Option ℕ → Bool
+goes s Out v = sends s v
+goes s In v = hears s v
 
 abbrev pub is_in_from_mode : State → Transition → Bool
 is_in_from_mode w x = mode_of w x.component == x.from

@@ -1,7 +1,7 @@
 // Numbers brought into ranges.
 
 ghost use Rattle.std.specs.Prelude.{◌≡◌};
-ghost use Rattle.running.specs.Values.{bring, plus, minus, same_number};
+ghost use Rattle.running.specs.Values.{bring, plus, minus};
 
 use sheet::sizes::{GREATEST_NUMBER, LEAST_NUMBER};
 
@@ -30,10 +30,4 @@ pub(crate) fn difference_of(a: i32, b: i32) -> i32
     ensures { result ≡ minus a b }
 {
     bring_into(LEAST_NUMBER, GREATEST_NUMBER, a.saturating_sub(b))
-}
-
-pub(crate) fn is_same(a: i32, b: i32) -> bool
-    ensures { result ≡ same_number a b }
-{
-    a == b
 }

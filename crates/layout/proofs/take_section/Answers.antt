@@ -4,27 +4,27 @@ use Rattle.sheet.specs.Sections.{shape}
 use Rattle.sheet.proofs.Layouts.{bytes_from}
 use Rattle.layout.proofs.Cuts.{missing, not_allowed, short, whole, chunked_front}
 use Rattle.layout.proofs.take_section.Goals as goal
-use Rattle.layout.proofs.take_section.Goals.{then-count-least-via-then-count-least, then-count-least-via-else-count-least+then-count-most}
+use Rattle.layout.proofs.take_section.Goals.{then-count-LEAST-via-then-count-LEAST, then-count-LEAST-via-else-count-LEAST+then-count-MOST}
 
 pub returns-in_default : goal.returns-in_default
 returns-in_default g c =
     record {
-      answer = missing c.args.section (shape g.row.N c.args.least c.args.most) c.args.bytes.now c.in_default.ensures.cases;
+      answer = rw c.SECTION-section.ensures (missing g.R.FromRow.SECTION (shape g.row.N g.R.FromRow.LEAST g.R.FromRow.MOST) c.args.bytes.now c.in_default.ensures.cases);
       typed = bytes_from c.args.bytes.now c.type_inv.bytes;
     }
 
-pub returns-then-count-least : goal.returns-then-count-least
-returns-then-count-least g c =
+pub returns-then-count-LEAST : goal.returns-then-count-LEAST
+returns-then-count-LEAST g c =
     record {
-      answer = not_allowed c.args.section (shape g.row.N c.args.least c.args.most) c.args.bytes.now c.in-Some.count.now c.in-Some.rest.now c.in-Some.ensures.cases.0
-          (elim c.then-count-least.branch [ then-count-least-via-then-count-least w ↦ inl w.if-count-least.true | then-count-least-via-else-count-least+then-count-most w ↦ inr w.if-count-most.true ]);
+      answer = rw c.SECTION-section.ensures (not_allowed g.R.FromRow.SECTION (shape g.row.N g.R.FromRow.LEAST g.R.FromRow.MOST) c.args.bytes.now c.in-Some.count.now c.in-Some.rest.now c.in-Some.ensures.cases.0
+          (elim c.then-count-LEAST.branch [ then-count-LEAST-via-then-count-LEAST w ↦ inl (rw c.LEAST.ensures at w.if-count-LEAST.true) | then-count-LEAST-via-else-count-LEAST+then-count-MOST w ↦ inr (rw w.MOST.ensures at w.if-count-MOST.true) ]));
       typed = bytes_from c.args.bytes.now c.type_inv.bytes;
     }
 
 pub returns-then-whole_rows-count : goal.returns-then-whole_rows-count
 returns-then-whole_rows-count g c =
     record {
-      answer = short c.args.section (shape g.row.N c.args.least c.args.most) c.args.bytes.now c.in-Some.count.now c.in-Some.rest.now c.in-Some.ensures.cases.0 c.if-count-least.false c.if-count-most.false c.requires.0 c.if-whole_rows-count.true;
+      answer = rw c.SECTION-section.ensures (short g.R.FromRow.SECTION (shape g.row.N g.R.FromRow.LEAST g.R.FromRow.MOST) c.args.bytes.now c.in-Some.count.now c.in-Some.rest.now c.in-Some.ensures.cases.0 (rw c.LEAST.ensures at c.if-count-LEAST.false) (rw c.MOST.ensures at c.if-count-MOST.false) g.met.R.FromRow.some c.if-whole_rows-count.true);
       typed = bytes_from c.args.bytes.now c.type_inv.bytes;
     }
 
@@ -36,11 +36,11 @@ returns g c =
     let n = c.in-Some.count.now in
     let rest = c.in-Some.rest.now in
     let room : n * g.row.N ≤ length rest = omega (arith, mul-le-mul_right g.row.N c.if-whole_rows-count.false, div-mul-le_self (length rest) g.row.N) in
-    let count : length c.split_at.result.0.now / g.row.N ≡ n = ap (λ k. k / g.row.N) c.split_at.ensures.front_len ∙ mul-div_cancel n c.requires.0 in
+    let count : length c.split_at.result.0.now / g.row.N ≡ n = ap (λ k. k / g.row.N) c.split_at.ensures.front_len ∙ mul-div_cancel n g.met.R.FromRow.some in
     let rows : c.as_chunks.result.0.now ≡ first_chunks g.row.N n rest =
     c.as_chunks.ensures.front ∙ (λ i. first_chunks g.row.N (count i) (c.split_at.ensures.front i)) ∙ chunked_front g.row.N n rest in
     record {
-      answer = whole c.args.section (shape g.row.N c.args.least c.args.most) c.args.bytes.now n rest c.in-Some.ensures.cases.0 c.if-count-least.false c.if-count-most.false c.requires.0 room
+      answer = whole g.R.FromRow.SECTION (shape g.row.N g.R.FromRow.LEAST g.R.FromRow.MOST) c.args.bytes.now n rest c.in-Some.ensures.cases.0 (rw c.LEAST.ensures at c.if-count-LEAST.false) (rw c.MOST.ensures at c.if-count-MOST.false) g.met.R.FromRow.some room
           ∙ (λ i. Ok (sym rows i, sym c.split_at.ensures.back i));
       typed = bytes_from c.args.bytes.now c.type_inv.bytes;
     }

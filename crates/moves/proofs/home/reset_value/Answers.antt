@@ -8,7 +8,4 @@ pub set_value-requires : goal.set_value-requires
 set_value-requires g c =
     let s = g.S.View.rows c.args.store.now in
     let small : SFits w32 c.in-Some.value = search rules in
-    record {
-      fits = c.requires;
-      holds = subst (λ v. can_hold s c.args.e v ≡ true) (sym (to_z-of_z w32 c.in-Some.value small)) (start_value_allowed s c.args.e c.in-Some.value (sym c.rest_value.ensures ∙ c.in-Some.is));
-    }
+    subst (λ v. can_hold s c.args.e v ≡ true) (sym (to_z-of_z w32 c.in-Some.value small)) (start_value_allowed s c.args.e c.in-Some.value (sym c.rest_value.ensures ∙ c.in-Some.is))

@@ -10,7 +10,4 @@ set_value-requires g c =
     let s = g.S.View.rows c.args.store.now in
     let small : SFits w32 c.in-Some.v = search rules in
     let change = sym c.setting_change.ensures ∙ c.in-Some.is in
-    record {
-      fits = c.requires;
-      holds = subst (λ v. can_hold s c.in-Some.e v ≡ true) (sym (to_z-of_z w32 c.in-Some.v small)) (change_allowed s c.requires.accepts c.args.worths.now c.args.row (parts c.args.step) c.in-Some.e c.in-Some.v change);
-    }
+    subst (λ v. can_hold s c.in-Some.e v ≡ true) (sym (to_z-of_z w32 c.in-Some.v small)) (change_allowed s (g.met.S.View.accepts c.args.store.now) c.args.worths.now c.args.i (parts c.args.step) c.in-Some.e c.in-Some.v change)

@@ -6,12 +6,8 @@ use Rattle.sheet.specs.Sections.{rows, settings}
 use Rattle.sheet.proofs.Shapes.{count_is}
 use Rattle.view.specs.Checks.{change_by, changed}
 use Rattle.moves.specs.Settle.{settled_by}
-use Rattle.moves.proofs.Homes.{still_accepted}
 use Rattle.moves.proofs.Refills.{settled_more, settled_end}
 use Rattle.moves.proofs.step.settle.Goals as goal
-
-pub apply_setting-requires : goal.apply_setting-requires
-apply_setting-requires g c = still_accepted (g.S.View.rows c.args.store.now) (g.S.View.rows c.loop-i.store) (g.S.View.fits c.loop-i.store) c.loop-i.invariant.2 c.requires.accepts c.loop-i.invariant.3
 
 pub loop-i-preserved : goal.loop-i-preserved
 loop-i-preserved g c =
@@ -21,24 +17,22 @@ loop-i-preserved g c =
     let i = c.loop-i.i in
     let vs = (g.S.View.state c.loop-i.store).held in
     let inv = c.loop-i.invariant in
-    let n = count_is s settings c.requires.accepts (omega arith) c.count.result c.count.ensures in
+    let n = count_is s settings (g.met.S.View.accepts c.args.store.now) (omega arith) c.count.result c.count.ensures in
     let inside : i < length (rows s settings) = omega (arith, c.loop-i-test.true, c.unwrap_or-count.ensures, n) in
     let is = c.apply_setting.ensures.state in
     let after : (g.S.View.state c.apply_setting.new.store).held ≡ changed (change_by s t ts (setting_at s i)) vs = ap (λ (w : State). w.held) is ∙ ap (λ r. changed (change_by r t ts (setting_at r i)) vs) inv.2 in (
       ap (settled_by s t ts (drop (i + 1) (rows s settings))) after ∙ settled_more s t ts (rows s settings) i vs (change_by s t ts (setting_at s i)) inside refl ∙ inv.0,
       ap (λ (w : State). w.modes) is ∙ inv.1,
       c.apply_setting.ensures.rows ∙ inv.2,
-      c.apply_setting.ensures.still_fits,
     )
 
 pub returns : goal.returns
 returns g c =
     let s = g.S.View.rows c.args.store.now in
     let inv = c.loop-i.invariant in
-    let n = count_is s settings c.requires.accepts (omega arith) c.count.result c.count.ensures in
+    let n = count_is s settings (g.met.S.View.accepts c.args.store.now) (omega arith) c.count.result c.count.ensures in
     let values = sym (settled_end s c.args.worths.now (parts c.args.step) (rows s settings) c.loop-i.i (g.S.View.state c.loop-i.store).held (omega (arith, c.loop-i-test.false, c.unwrap_or-count.ensures, n))) ∙ inv.0 in
     record {
-      still_fits = inv.3;
       rows = inv.2;
       state = λ j. record { modes = inv.1 j; held = values j };
     }

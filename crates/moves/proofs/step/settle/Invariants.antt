@@ -10,4 +10,3 @@ invariant-loop-i g l =
     ≡ settled_by (g.S.View.rows l.initial.store) l.worths (parts l.step) (rows (g.S.View.rows l.initial.store) settings) (g.S.View.state l.initial.store).held)
     × ((g.S.View.state l.store).modes ≡ (g.S.View.state l.initial.store).modes)
     × (g.S.View.rows l.store ≡ g.S.View.rows l.initial.store)
-    × g.S.View.fits l.store

@@ -5,8 +5,8 @@ use Rattle.running.specs.States.{start_mode}
 use Rattle.view.proofs.Starts.{made_at, made_nowhere}
 use Rattle.view.proofs.answers.start_mode.Goals as goal
 
-pub returns-in-Some : goal.returns-in-Some
-returns-in-Some g c = sym (made_at component_entry start_mode (rows (g.V.View.rows c.args.view.now) components) c.args.c 0 c.in-Some.x (sym c.in-Some.ensures))
+pub returns : goal.returns
+returns g c = sym (made_at component_entry start_mode (rows (g.V.View.rows c.args.view.now) components) c.args.c 0 c.in-Some.x (sym c.in-Some.ensures))
 
-pub returns-in-None : goal.returns-in-None
-returns-in-None g c = sym (made_nowhere component_entry start_mode (rows (g.V.View.rows c.args.view.now) components) c.args.c 0 refl refl (sym c.in-None.ensures))
+pub returns-in_default : goal.returns-in_default
+returns-in_default g c = sym (made_nowhere component_entry start_mode (rows (g.V.View.rows c.args.view.now) components) c.args.c 0 refl refl (sym c.in_default.ensures))

@@ -10,6 +10,6 @@ returns g c n =
     let w = g.V.View.state c.args.view.now in
     let vs = c.element_values-values.result in
     let k = c.unwrap_or-count.result in
-    let all : k ≡ length (rows s elements) = c.unwrap_or-count.ensures ∙ count_is s elements c.requires.accepts (omega arith) c.count.result c.count.ensures in
+    let all : k ≡ length (rows s elements) = c.unwrap_or-count.ensures ∙ count_is s elements (g.met.V.View.accepts c.args.view.now) (omega arith) c.count.result c.count.ensures in
     let part : k - 0 ≡ length (rows s elements) = omega (arith, all) in
     c.worths.ensures n ∙ ap (λ l. node_over s w l n) (ap (λ j. take j vs) part ∙ c.element_values-values.ensures)

@@ -6,5 +6,5 @@ use Rattle.rig.proofs.seen.SeenView.held.Goals as goal
 pub returns : goal.returns
 returns g c h =
     let x = c.args.self.now.rig.now in
-    let k = g.met.R.Rig.sound x c.requires in
+    let k = g.met.R.Rig.sound x c.args.self.now.fits in
     to_z-of_z w32 c.unwrap_or.result (record { sfits = c.unwrap_or.type_inv }) ∙ c.unwrap_or.ensures ∙ value_told (g.R.Rig.rows x) (g.R.Rig.means x).state k.accepts k.state_of c.args.element c.value.result c.value.ensures h
