@@ -39,11 +39,7 @@ pub fn number_in_bits(bytes: &[u8], at: usize, bits: u32) -> u32
     requires short { length bytes.now < 2 ^ 32 }
     ensures { result ≡ part (number_of bytes.now) at bits }
 {
-    let mut value = 0;
-    for i in 0..bits {
-        value += bit(bytes, at + i as usize) << i;
-    }
-    value
+    (0..bits).map(|i| bit(bytes, at + i as usize) << i).sum()
 }
 
 // Puts a number into some bits, from a place on, and leaves the others.

@@ -1,20 +1,21 @@
-use Rattle.std.proofs.Common.{◌≡◌, ◌+◌, ◌*◌, ◌%◌, ◌^◌, ap, arith, pow_mono}
-use Rattle.std.proofs.lemmas.Nat.{shl_whole}
+use Rattle.std.proofs.Common.{◌^◌, ◌<◌, sum, refl, sym, ◌∙◌, map, subst, arith, rules, pow_mono}
+use Rattle.std.specs.List.{range_with_len}
+use Rattle.std.proofs.lemmas.Iterator.{YieldsList-from_range, YieldsList-from_map}
+use Rattle.std.proofs.lemmas.Iterator.Consumers.{sum_from_yields_List, fits_from_yields_list}
 use Rattle.image.specs.Bits.{number_of, part}
-use Rattle.image.proofs.Parts.{part_lt, part_more}
+use Rattle.image.proofs.Parts.{part_lt}
+use Rattle.bits.proofs.Sums.{bit_at, sum_of_bits}
 use Rattle.bits.proofs.string.number_in_bits.Goals as goal
 
--- one more bit
-more : (c : goal.After-bit) → c.loop-i.value + (c.bit.result * 2 ^ c.loop-i.i) % 4294967296 ≡ part (number_of c.args.bytes.now) c.args.at (c.loop-i.i + 1)
-more c =
+pub sum-requires-clause-fits : goal.sum-requires-clause-fits
+sum-requires-clause-fits c =
     let n = number_of c.args.bytes.now in
-    let b = part_lt n (c.args.at + c.loop-i.i) 1 in
-    omega
-    (arith, part_more n c.args.at c.loop-i.i 1, c.loop-i.invariant, ap (λ x. x * 2 ^ c.loop-i.i) c.bit.ensures, shl_whole c.bit.result 1 c.loop-i.i 32 (omega arith) (omega (arith, c.requires.few)))
+    let bits = map (bit_at n c.args.at) (range_with_len 0 c.args.bits) in
+    fits_from_yields_list {all = bits} c.map.result _ (YieldsList-from_map _ (bit_at n c.args.at) (YieldsList-from_range 0 c.args.bits c.args.bits c.map.ensures.source (omega arith)) c.map.ensures.closure (λ x r q k. search rules))
+    (omega (arith, sum_of_bits n c.args.at c.args.bits c.requires.few, part_lt n c.args.at c.args.bits, pow_mono {i = c.args.bits} {j = 32} c.requires.few))
 
-pub overflow_add-value : goal.overflow_add-value
-overflow_add-value c =
-    omega (arith, more c, part_lt (number_of c.args.bytes.now) c.args.at (c.loop-i.i + 1), pow_mono {i = c.loop-i.i + 1} {j = 32} (omega (arith, c.requires.few)))
-
-pub loop-i-preserved : goal.loop-i-preserved
-loop-i-preserved c = more c
+pub returns : goal.returns
+returns c =
+    let n = number_of c.args.bytes.now in
+    sum_from_yields_List {all = map (bit_at n c.args.at) (range_with_len 0 c.args.bits)} c.map.result c.sum.result c.sum.ensures.ran (YieldsList-from_map _ (bit_at n c.args.at) (YieldsList-from_range 0 c.args.bits c.args.bits c.map.ensures.source (omega arith)) c.map.ensures.closure (λ x r q k. search rules))
+    ∙ sum_of_bits n c.args.at c.args.bits c.requires.few
