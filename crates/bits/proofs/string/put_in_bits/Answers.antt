@@ -1,6 +1,7 @@
-use Rattle.std.proofs.Common.{◌≡◌, ◌+◌, sym, ap, ◌∙◌, arith}
+use Rattle.std.proofs.Common.{◌≡◌, ◌+◌, sym, ap, ap₂, ◌∙◌, arith}
 use Rattle.image.specs.Bits.{number_of, part, put}
 use Rattle.image.proofs.Parts.{part_lt, part_front, part_whole, put_more}
+use Rattle.bits.proofs.Cells.{read_bit}
 use Rattle.bits.proofs.string.put_in_bits.Goals as goal
 
 pub loop-i-preserved : goal.loop-i-preserved
@@ -9,7 +10,7 @@ loop-i-preserved c =
     let v = c.args.value in
     let i = c.loop-i.i in
     c.put_bit.ensures
-    ∙ ap (λ x. put x (c.args.at + i) 1 (part v i 1)) c.loop-i.invariant
+    ∙ ap₂ (λ x b. put x (c.args.at + i) 1 b) c.loop-i.invariant (read_bit v i)
     ∙ put_more n c.args.at i 1 (part v 0 i) (part v i 1) (part_lt v 0 i)
     ∙ ap (put n c.args.at (i + 1)) (sym (part_front v i 1))
 
