@@ -24,25 +24,35 @@ fn put_bit(bytes: &mut [u8], at: usize, set: bool)
     }
 }
 
-// The number in some bits, from a place on.
-pub fn number_in_bits(bytes: &[u8], at: usize, bits: u32) -> u32
-    requires few { bits ≤ 32 }
-    requires place { at + bits ≤ 8 * length bytes.now }
-    requires short { length bytes.now < 2 ^ 32 }
-    ensures { result ≡ part (number_of bytes.now) at bits }
-{
-    (0..bits).map(|i| u32::from(is_set(bytes, at + i as usize)) << i).sum()
+// Some bits of a byte string: the place of the first, and how many there are.
+#[derive(Clone, Copy)]
+pub struct BitField {
+    pub at: usize,
+    pub bits: u32,
+    pub ghost few: { bits ≤ 32 },
+    pub ghost ends: { at + bits < 2 ^ 64 },
 }
 
-// Puts a number into some bits, from a place on, and leaves the others.
-pub fn put_in_bits(bytes: &mut [u8], at: usize, bits: u32, value: u32)
-    requires few { bits ≤ 32 }
-    requires place { at + bits ≤ 8 * length bytes.old }
-    requires short { length bytes.old < 2 ^ 32 }
-    requires room { value < 2 ^ bits }
-    ensures { number_of bytes.new ≡ put (number_of bytes.old) at bits value }
-{
-    for i in 0..bits {
-        put_bit(bytes, at + i as usize, value >> i & 1 == 1);
+impl BitField {
+    // The number in the bits.
+    pub fn number(&self, bytes: &[u8]) -> u32
+        requires { self.now.at + self.now.bits ≤ 8 * length bytes.now }
+        ensures { result ≡ part (number_of bytes.now) self.now.at self.now.bits }
+    {
+        (0..self.bits)
+            .map(|i| u32::from(is_set(bytes, self.at + i as usize)) << i)
+            .sum()
+    }
+
+    // Puts a number into the bits, and leaves the others.
+    pub fn put(&self, bytes: &mut [u8], number: u32)
+        requires there { self.now.at + self.now.bits ≤ 8 * length bytes.old }
+        requires room { number < 2 ^ self.now.bits }
+        ensures { number_of bytes.new ≡ put (number_of bytes.old) self.now.at self.now.bits number }
+    {
+        // Each step writes to the bytes, so a chain would be a `for_each` with the same body.
+        for i in 0..self.bits {
+            put_bit(bytes, self.at + i as usize, number >> i & 1 == 1);
+        }
     }
 }

@@ -1,5 +1,5 @@
-use Rattle.std.proofs.Common.{◌/◌, ◌%◌, get_or, set, cond, ap, ◌∙◌, arith, rules}
-use Rattle.image.specs.Bits.{number_of, put}
+use Rattle.std.proofs.Common.{◌/◌, ◌%◌, get_or, set, ap, ◌∙◌, arith, rules}
+use Rattle.image.specs.Bits.{number_of}
 use Rattle.bits.proofs.Cells.{set_bit, set_in_byte, clear_in_byte}
 use Rattle.bits.proofs.string.put_bit.Goals as goal
 
