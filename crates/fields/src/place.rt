@@ -13,11 +13,7 @@ pub(crate) fn bits_before(sheet: &AcceptedSheet, i: usize) -> usize
     requires { i ≤ length (widths (rows_held sheet.now)) }
     ensures { result ≡ place (widths (rows_held sheet.now)) i }
 {
-    let mut bits = 0;
-    for k in 0..i {
-        bits += field_bits(sheet, k) as usize;
-    }
-    bits
+    (0..i).map(|k| field_bits(sheet, k) as usize).sum()
 }
 
 // The bytes of an image.
@@ -27,5 +23,5 @@ pub fn image_length(sheet: &AcceptedSheet) -> usize
 {
     let components = sheet.count(0).unwrap_or(0);
     let elements = sheet.count(1).unwrap_or(0);
-    (bits_before(sheet, components + elements) + 7) / 8
+    bits_before(sheet, components + elements).div_ceil(8)
 }

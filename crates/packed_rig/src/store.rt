@@ -6,7 +6,6 @@ ghost use Rattle.packed_rig.specs.Tables.{rows_in, state_in, Spare};
 
 use crate::tables::Tables;
 use fields::field::{number_in_field, put_in_field};
-use fields::width::above;
 use moves::store::Store;
 use view::view::View;
 
@@ -63,7 +62,7 @@ impl Store for Tables {
             &self.sheet,
             &mut self.state.bytes,
             components + element,
-            above(x.lowest, value),
+            value.abs_diff(x.lowest),
         );
     }
 }

@@ -1,14 +1,11 @@
 -- Putting one thing behind the other.
-use Rattle.std.proofs.Common.{◌≡◌, ℕ, ◌+◌, ◌-◌, ◌<◌, ◌≤◌, List, [], ◌∷◌, ◌++◌, length, get_or, take, drop, sym, ap, ◌∙◌, append_assoc, arith}
-use Rattle.std.proofs.lemmas.List.{take_at, drop_at, drop-drop, take_all, take_more, take-append-drop, length-append, length-take-le}
-use borrow.Rule.Slice.PartMut.{put_mid, Post-is}
+use Rattle.std.proofs.Common.{◌≡◌, ℕ, ◌+◌, ◌<◌, ◌≤◌, List, [], ◌∷◌, ◌++◌, length, get_or, take, drop, sym, ap, ◌∙◌, append_assoc, subst, arith}
+use Rattle.std.proofs.lemmas.List.{take_at, drop_at, drop-drop, take_all, take_more, length-append, length-take-le, length-drop}
 use Rattle.std.specs.List.{flat_map}
+use Rattle.sheet.specs.Sections.{Row, strung, section_bytes}
 use Rattle.sheet.proofs.Joins.{joined_take_more, joined_front}
-use Rattle.writer.specs.Written.{over, Put}
-
--- what copying into a part of a buffer leaves
-pub put_part : (a : ℕ) (out ys bs : List ℕ) → ys ≡ bs → put_mid a ((a + length bs) - a) out ys ≡ over out a bs
-put_part a out ys bs e = (λ i. take a out ++ (e i ++ Post-is a (a + length bs) out (omega arith) i))
+use Rattle.writer.specs.Filled.{over, Filled}
+use Rattle.writer.specs.declared.filling.Filling.{Filling}
 
 over_over : (out : List ℕ) (a : ℕ) (xs ys : List ℕ) → a + length xs + length ys ≤ length out → over (over out a xs) (a + length xs) ys ≡ over out a (xs ++ ys)
 over_over out a xs ys h =
@@ -24,56 +21,64 @@ over_over out a xs ys h =
     ∙ append_assoc (take a out) xs (ys ++ R)
     ∙ ap (λ l. take a out ++ l) (sym (append_assoc xs ys R))
 
--- nothing is put
-pub put_none : (out : List ℕ) (a : ℕ) → Put [] out a out a
-put_none out a = record { place = omega arith; holds = sym (ap (λ k. take a out ++ drop k out) (omega arith) ∙ take-append-drop a out) }
+-- the buffer keeps its length
+pub filled_length : (xs : List ℕ) (a b : Filling) → a.filled + length xs ≤ length a.buffer.now → Filled a xs b → length b.buffer.now ≡ length a.buffer.now
+filled_length xs a b room f =
+    omega (arith, ap length f.holds, length-append (take a.filled a.buffer.now) (xs ++ drop (a.filled + length xs) a.buffer.now), length-append xs (drop (a.filled + length xs) a.buffer.now), length-take-le a.filled a.buffer.now (omega arith), length-drop (a.filled + length xs) a.buffer.now)
 
 -- ys is put behind xs
-pub put_more : (xs ys was : List ℕ) (a : ℕ) (out : List ℕ) (p : ℕ) (after : List ℕ) (q : ℕ) → a + length (xs ++ ys) ≤ length was → Put xs was a out p → Put ys out p after q → Put (xs ++ ys) was a after q
-put_more xs ys was a out p after q room f g =
+pub put_more : (xs ys : List ℕ) (a b c : Filling) → a.filled + length (xs ++ ys) ≤ length a.buffer.now → Filled a xs b → Filled b ys c → Filled a (xs ++ ys) c
+put_more xs ys a b c room f g =
     record {
-      place = omega (arith, g.place, f.place, length-append xs ys);
-      holds = g.holds ∙ (λ i. over (f.holds i) (f.place i) ys) ∙ over_over was a xs ys (omega (arith, length-append xs ys));
+      same = g.same ∙ f.same;
+      filled = omega (arith, g.filled, f.filled, length-append xs ys);
+      holds = g.holds ∙ (λ i. over (f.holds i) (f.filled i) ys) ∙ over_over a.buffer.now a.filled xs ys (omega (arith, length-append xs ys));
     }
 
 -- what was put is something else that is equal
-pub put_as : (xs ys was : List ℕ) (a : ℕ) (out : List ℕ) (p : ℕ) → xs ≡ ys → Put xs was a out p → Put ys was a out p
-put_as xs ys was a out p e f = record { place = f.place ∙ ap (λ l. a + length l) e; holds = f.holds ∙ ap (over was a) e }
-
--- what is put at the front
-pub put_front : (bs was out : List ℕ) (p : ℕ) → Put bs was 0 out p → (p ≡ length bs) × (out ≡ bs ++ drop (length bs) was)
-put_front bs was out p f = (omega (arith, f.place), f.holds ∙ ap (λ k. bs ++ drop k was) (omega arith))
+pub put_as : (xs ys : List ℕ) (a b : Filling) → xs ≡ ys → Filled a xs b → Filled a ys b
+put_as xs ys a b e f = subst (λ l. Filled a l b) e f
 
 -- ---- a row byte by byte
 
-module _ (xs was : List ℕ) (a : ℕ) (room : a + length xs ≤ length was) (i : ℕ) (out : List ℕ) (p : ℕ) (sofar : Put (take i xs) was a out p) where
-  -- one more byte has room
-  pub byte_room : i < length xs → p + 1 ≤ length was
-  byte_room l = omega (arith, sofar.place, length-take-le i xs (omega arith))
-
+module _ (xs : List ℕ) (a : Filling) (room : a.filled + length xs ≤ length a.buffer.now) (i : ℕ) (b : Filling) (sofar : Filled a (take i xs) b) where
   -- one more byte is put
-  pub byte_more : (b : ℕ) (after : List ℕ) (q : ℕ) → i < length xs → get_or xs i 0 ≡ b → Put (b ∷ []) out p after q → Put (take (i + 1) xs) was a after q
-  byte_more b after q l is f =
-      let more : take i xs ++ (b ∷ []) ≡ take (i + 1) xs = sym (take_more xs i 0 l ∙ ap (λ x. take i xs ++ (x ∷ [])) is) in
-      put_as (take i xs ++ (b ∷ [])) (take (i + 1) xs) was a after q more
-      (put_more (take i xs) (b ∷ []) was a out p after q (omega (arith, length-append (take i xs) (b ∷ []), length-take-le i xs (omega arith))) sofar f)
-
-  pub bytes_end : length xs ≤ i → Put xs was a out p
-  bytes_end l = put_as (take i xs) xs was a out p (take_all i xs l) sofar
+  pub byte_more : (x : ℕ) (c : Filling) → i < length xs → get_or xs i 0 ≡ x → Filled b (x ∷ []) c → Filled a (take (i + 1) xs) c
+  byte_more x c l is f =
+      let more : take i xs ++ (x ∷ []) ≡ take (i + 1) xs = sym (take_more xs i 0 l ∙ ap (λ x. take i xs ++ (x ∷ [])) is) in
+      put_as (take i xs ++ (x ∷ [])) (take (i + 1) xs) a c more
+      (put_more (take i xs) (x ∷ []) a b c (omega (arith, length-append (take i xs) (x ∷ []), length-take-le i xs (omega arith))) sofar f)
 
 -- ---- items one behind the other, each by its bytes
 
-module _ {X : Type 0} (f : X → List ℕ) (xs : List X) (was : List ℕ) (a : ℕ) (room : a + length (flat_map f xs) ≤ length was) (i : ℕ) (out : List ℕ) (p : ℕ) (sofar : Put (flat_map f (take i xs)) was a out p) (d : X) where
+module _ {X : Type 0} (f : X → List ℕ) (xs : List X) (a : Filling) (room : a.filled + length (flat_map f xs) ≤ length a.buffer.now) (i : ℕ) (b : Filling) (sofar : Filled a (flat_map f (take i xs)) b) (d : X) where
   module _ (l : i < length xs) where
     -- one more item has room
-    pub item_room : p + length (f (get_or xs i d)) ≤ length was
-    item_room = omega (arith, sofar.place, joined_front f xs (i + 1), ap length (joined_take_more f xs i d l), length-append (flat_map f (take i xs)) (f (get_or xs i d)))
+    pub item_room : b.filled + length (f (get_or xs i d)) ≤ length b.buffer.now
+    item_room =
+        omega (
+          arith,
+          sofar.filled,
+          joined_front f xs (i + 1),
+          ap length (joined_take_more f xs i d l),
+          length-append (flat_map f (take i xs)) (f (get_or xs i d)),
+          filled_length (flat_map f (take i xs)) a b (omega (arith, joined_front f xs i)) sofar,
+        )
 
     -- one more item is put
-    pub item_more : (after : List ℕ) (q : ℕ) → Put (f (get_or xs i d)) out p after q → Put (flat_map f (take (i + 1) xs)) was a after q
-    item_more after q g =
-        put_as (flat_map f (take i xs) ++ f (get_or xs i d)) (flat_map f (take (i + 1) xs)) was a after q (sym (joined_take_more f xs i d l))
-        (put_more (flat_map f (take i xs)) (f (get_or xs i d)) was a out p after q (omega (arith, joined_front f xs (i + 1), ap length (joined_take_more f xs i d l))) sofar g)
+    pub item_more : (c : Filling) → Filled b (f (get_or xs i d)) c → Filled a (flat_map f (take (i + 1) xs)) c
+    item_more c g =
+        put_as (flat_map f (take i xs) ++ f (get_or xs i d)) (flat_map f (take (i + 1) xs)) a c (sym (joined_take_more f xs i d l))
+        (put_more (flat_map f (take i xs)) (f (get_or xs i d)) a b c (omega (arith, joined_front f xs (i + 1), ap length (joined_take_more f xs i d l))) sofar g)
 
-  pub items_end : length xs ≤ i → Put (flat_map f xs) was a out p
-  items_end l = put_as (flat_map f (take i xs)) (flat_map f xs) was a out p (ap (flat_map f) (take_all i xs l)) sofar
+  pub items_end : length xs ≤ i → Filled a (flat_map f xs) b
+  items_end l = put_as (flat_map f (take i xs)) (flat_map f xs) a b (ap (flat_map f) (take_all i xs l)) sofar
+
+-- ---- a section: its number of rows, then its rows
+
+module _ (rs : List Row) (n : ℕ) (e : n ≡ length rs) (a b : Filling) (room : a.filled + length (section_bytes rs) ≤ length a.buffer.now) (counted : Filled a (n ∷ []) b) where
+  pub rows_room : b.filled + length (strung rs) ≤ length b.buffer.now
+  rows_room = omega (arith, room, counted.filled, filled_length (n ∷ []) a b (omega (arith, room)) counted)
+
+  pub section_end : (c : Filling) → Filled b (strung rs) c → Filled a (section_bytes rs) c
+  section_end c f = put_more (length rs ∷ []) (strung rs) a b c room (put_as (n ∷ []) (length rs ∷ []) a b (ap (λ k. k ∷ []) e) counted) f

@@ -1,19 +1,10 @@
 -- What writing to the front of a buffer leaves, and what it answers.
-use Rattle.std.specs.Prelude.{◌≡◌, ℕ, ◌+◌, ◌<◌, ◌≤◌, List, ◌++◌, length, take, drop, Ok, Err, Result}
+use Rattle.std.specs.Prelude.{◌≡◌, ℕ, ◌<◌, ◌≤◌, List, ◌++◌, length, drop, Ok, Err, Result}
 use Rattle.writer.specs.declared.fault.TooShort.{TooShort}
 
 -- The number of the refusal of a buffer that is too short.
 abbrev pub too_short_number : TooShort → ℕ
 too_short_number f = 15
-
--- a buffer after bs is put into it from a place on
-abbrev pub over : List ℕ → ℕ → List ℕ → List ℕ
-over out from bs = take from out ++ (bs ++ drop (from + length bs) out)
-
--- bs was put into a buffer from a place on, and the answer is the place behind
-pub record Put (bs before : List ℕ) (from : ℕ) (behind : List ℕ) (r : ℕ) : Type 0 where
-  pub place : r ≡ from + length bs
-  pub holds : behind ≡ over before from bs
 
 -- bs was to be written to the front of a buffer: where it has room, bs stands at the front, what was behind it stays, and
 -- the answer is the length; else nothing is written, and the answer is the length that is needed.

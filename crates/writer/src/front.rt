@@ -3,7 +3,6 @@
 ghost use Rattle.writer.specs.Written.{Written};
 
 use crate::fault::TooShort;
-use crate::put::put;
 
 // Writes the bytes to the front of a buffer, and tells their length; or refuses, with the length needed.
 pub fn write_front(out: &mut [u8], bytes: &[u8]) -> Result<usize, TooShort>
@@ -13,5 +12,6 @@ pub fn write_front(out: &mut [u8], bytes: &[u8]) -> Result<usize, TooShort>
     if out.len() < needed {
         return Err(TooShort { needed });
     }
-    Ok(put(out, 0, bytes))
+    out[..needed].copy_from_slice(bytes);
+    Ok(needed)
 }

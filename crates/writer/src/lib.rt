@@ -2,6 +2,6 @@
 #![tactic(auto)]
 
 pub mod fault;
+mod filling;
 pub mod front;
-mod put;
 pub mod write;

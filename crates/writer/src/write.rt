@@ -1,35 +1,31 @@
 // The sheet of any rig, section by section, row by row and byte by byte.
 
 ghost use Rattle.std.specs.Prelude.{◌≡◌, ℕ, ◌+◌, ◌*◌, ◌<◌, ◌≤◌, [], length, slice_index_or};
-ghost use Rattle.sheet.specs.Sections.{rows, section_bytes, bytes_of, width_of};
+ghost use Rattle.sheet.specs.Sections.{rows, section_bytes, bytes_of};
 ghost use Rattle.sheet.specs.Laws.{ReadsBack};
-ghost use Rattle.writer.specs.Written.{Put, Written};
+ghost use Rattle.writer.specs.Filled.{Filled};
+ghost use Rattle.writer.specs.Written.{Written};
 
 use crate::fault::TooShort;
-use crate::put::put;
+use crate::filling::Filling;
 use rig::rig::Rig;
 use sheet::sizes::{
     COMPONENT_BYTES, CONNECTION_BYTES, ELEMENT_BYTES, EVENT_BYTES, FLOW_BYTES, NODE_BYTES,
     QUESTION_BYTES, SECTIONS, SETTING_BYTES, TRANSITION_BYTES,
 };
 
-// The bytes of a row of a section.
-fn row_length(section: usize) -> usize
-    ensures { result ≡ width_of section }
-{
-    match section {
-        0 => COMPONENT_BYTES,
-        1 => ELEMENT_BYTES,
-        2 => EVENT_BYTES,
-        3 => NODE_BYTES,
-        4 => FLOW_BYTES,
-        5 => CONNECTION_BYTES,
-        6 => TRANSITION_BYTES,
-        7 => SETTING_BYTES,
-        8 => QUESTION_BYTES,
-        _ => 0,
-    }
-}
+// The bytes of a row of each section.
+const ROW_BYTES: [usize; SECTIONS] = [
+    COMPONENT_BYTES,
+    ELEMENT_BYTES,
+    EVENT_BYTES,
+    NODE_BYTES,
+    FLOW_BYTES,
+    CONNECTION_BYTES,
+    TRANSITION_BYTES,
+    SETTING_BYTES,
+    QUESTION_BYTES,
+];
 
 // The bytes of a section.
 fn section_length<R: Rig>(rig: &R, section: usize) -> usize
@@ -38,10 +34,10 @@ fn section_length<R: Rig>(rig: &R, section: usize) -> usize
     ensures value { result ≡ length (section_bytes (rows (R.Rig.rows rig.now) section)) }
     ensures few { result ≤ 1025 }
 {
-    let Some(count) = rig.count(section) else {
-        return 0;
-    };
-    1 + count * row_length(section)
+    match rig.count(section) {
+        Some(count) => 1 + count * ROW_BYTES[section],
+        None => 0,
+    }
 }
 
 // The bytes of the sheet.
@@ -49,43 +45,42 @@ fn sheet_length<R: Rig>(rig: &R) -> usize
     requires { R.Rig.fits rig.now }
     ensures { result ≡ length (bytes_of (R.Rig.rows rig.now)) }
 {
-    let mut total = 0;
-    for section in 0..SECTIONS {
-        total += section_length(rig, section);
-    }
-    total
+    (0..SECTIONS)
+        .map(|section| section_length(rig, section))
+        .sum()
 }
 
-// Puts a row into the buffer from a place on, and tells the place behind it.
-fn put_row<R: Rig>(out: &mut [u8], from: usize, rig: &R, section: usize, row: usize) -> usize
-    requires fits { R.Rig.fits rig.now }
-    requires room { from + length (slice_index_or (rows (R.Rig.rows rig.now) section) row []) ≤ length out.old }
-    ensures { Put (slice_index_or (rows (R.Rig.rows rig.now) section) row []) out.old from out.new result }
-{
-    let mut at = from;
-    let mut place = 0;
-    while let Some(b) = rig.byte(section, row, place) {
-        at = put(out, at, &[b]);
-        place += 1;
+impl Filling<'_> {
+    // Puts a row behind what is filled. A `for` over `(0..).map_while(..)` gets no proof: the terms that rattle itself writes
+    // for a closure over a generic rig are ill-typed there.
+    fn put_row<R: Rig>(&mut self, rig: &R, section: usize, row: usize)
+        requires fits { R.Rig.fits rig.now }
+        requires room { self.old.filled + length (slice_index_or (rows (R.Rig.rows rig.now) section) row []) ≤ length self.old.buffer.now }
+        ensures { Filled self.old (slice_index_or (rows (R.Rig.rows rig.now) section) row []) self.new }
+    {
+        for place in 0.. {
+            let Some(byte) = rig.byte(section, row, place) else {
+                return;
+            };
+            self.put(&[byte]);
+        }
     }
-    at
-}
 
-// Puts a section into the buffer from a place on, and tells the place behind it.
-fn put_section<R: Rig>(out: &mut [u8], from: usize, rig: &R, section: usize) -> usize
-    requires fits { R.Rig.fits rig.now }
-    requires there { section < 9 }
-    requires room { from + length (section_bytes (rows (R.Rig.rows rig.now) section)) ≤ length out.old }
-    ensures { Put (section_bytes (rows (R.Rig.rows rig.now) section)) out.old from out.new result }
-{
-    let Some(count) = rig.count(section) else {
-        return from;
-    };
-    let mut at = put(out, from, &[count as u8]);
-    for row in 0..count {
-        at = put_row(out, at, rig, section, row);
+    // Puts a section behind what is filled.
+    fn put_section<R: Rig>(&mut self, rig: &R, section: usize)
+        requires fits { R.Rig.fits rig.now }
+        requires there { section < 9 }
+        requires room { self.old.filled + length (section_bytes (rows (R.Rig.rows rig.now) section)) ≤ length self.old.buffer.now }
+        ensures { Filled self.old (section_bytes (rows (R.Rig.rows rig.now) section)) self.new }
+    {
+        let Some(count) = rig.count(section) else {
+            return;
+        };
+        self.put(&[count as u8]);
+        for row in 0..count {
+            self.put_row(rig, section, row);
+        }
     }
-    at
 }
 
 // Writes the rig's sheet to the front of the buffer, and tells its length.
@@ -98,9 +93,12 @@ pub fn write<R: Rig>(rig: &R, out: &mut [u8]) -> Result<usize, TooShort>
     if out.len() < needed {
         return Err(TooShort { needed });
     }
-    let mut at = 0;
+    let mut filling = Filling {
+        buffer: out,
+        filled: 0,
+    };
     for section in 0..SECTIONS {
-        at = put_section(out, at, rig, section);
+        filling.put_section(rig, section);
     }
-    Ok(at)
+    Ok(filling.filled)
 }

@@ -1,19 +1,25 @@
-use Rattle.std.proofs.Common.{◌+◌, ◌<◌, length, sym, ap, ◌∙◌, ap₂, add-one, arith}
-use Rattle.image.specs.Reading.{widths, place}
-use Rattle.image.proofs.Layouts.{place_le, place_more}
+use Rattle.std.proofs.Common.{ℕ, get_or, ◌∙◌, map, arith, rules}
+use Rattle.std.specs.List.{range_with_len}
+use Rattle.std.proofs.lemmas.Iterator.{YieldsList-from_range, YieldsList-from_map}
+use Rattle.std.proofs.lemmas.Iterator.Consumers.{sum_from_yields_List, fits_from_yields_list}
+use Rattle.image.specs.Reading.{widths}
 use Rattle.image.proofs.Proved.{total_few}
 use Rattle.reader.specs.Means.{rows_held}
+use Rattle.fields.proofs.Places.{sum_of_widths, place_within}
 use Rattle.fields.proofs.place.bits_before.Goals as goal
 
-pub overflow_add-bits : goal.overflow_add-bits
-overflow_add-bits c =
+pub sum-requires-clause-fits : goal.sum-requires-clause-fits
+sum-requires-clause-fits c =
     let s = rows_held c.args.sheet.now in
-    let inside : c.loop-k.k < length (widths s) = omega (arith, c.loop-k-test.true, c.requires) in
-    record { fits = omega (arith, c.loop-k.invariant, c.field_bits.ensures.few, place_le (widths s) c.loop-k.k 0 inside, total_few s c.args.sheet.now.accepted) }
+    let i = c.args.i in
+    let width = λ (k : ℕ). get_or (widths s) k 0 in
+    fits_from_yields_list {all = map width (range_with_len 0 i)} c.map.result _ (YieldsList-from_map _ width (YieldsList-from_range 0 i i c.map.ensures.source (omega arith)) c.map.ensures.closure (λ x r q k. search rules))
+    (omega (arith, sum_of_widths (widths s) i c.requires, place_within (widths s) i, total_few s c.args.sheet.now.accepted))
 
-pub loop-k-preserved : goal.loop-k-preserved
-loop-k-preserved c =
-    let ws = widths (rows_held c.args.sheet.now) in
-    let k = c.loop-k.k in
-    let inside : k < length ws = omega (arith, c.loop-k-test.true, c.requires) in
-    ap₂ (λ x y. x + y) c.loop-k.invariant c.field_bits.ensures.value ∙ sym (ap (place ws) (add-one k) ∙ place_more ws k 0 inside)
+pub returns : goal.returns
+returns c =
+    let s = rows_held c.args.sheet.now in
+    let i = c.args.i in
+    let width = λ (k : ℕ). get_or (widths s) k 0 in
+    sum_from_yields_List {all = map width (range_with_len 0 i)} c.map.result c.sum.result c.sum.ensures.ran (YieldsList-from_map _ width (YieldsList-from_range 0 i i c.map.ensures.source (omega arith)) c.map.ensures.closure (λ x r q k. search rules))
+    ∙ sum_of_widths (widths s) i c.requires

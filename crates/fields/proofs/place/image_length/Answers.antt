@@ -1,5 +1,4 @@
-use Rattle.std.proofs.Common.{◌≡◌, ◌+◌, length, ap, ◌∙◌, arith}
-use Rattle.image.specs.Bits.{bytes_for}
+use Rattle.std.proofs.Common.{◌≡◌, ◌+◌, length, ◌∙◌, arith}
 use Rattle.image.specs.Reading.{widths, total}
 use Rattle.image.proofs.Images.{length_widths}
 use Rattle.image.proofs.Layouts.{place_all}
@@ -21,19 +20,12 @@ all c =
 pub bits_before-requires : goal.bits_before-requires
 bits_before-requires c = omega (arith, all c)
 
--- the bits of all fields
-bits : (c : goal.After-bits_before) → c.bits_before.result ≡ total (widths (rows_held c.args.sheet.now))
-bits c =
+pub returns : goal.returns
+returns c =
     let s = rows_held c.args.sheet.now in
     let a = c.args.sheet.now.accepted in
     let m = c.unwrap_or-components.ensures ∙ count_is s components a (omega arith) c.count.result c.count.ensures in
     let n = c.unwrap_or-elements.ensures ∙ count_is s elements a (omega arith) c.count-2.result c.count-2.ensures in
-    c.bits_before.ensures ∙ place_all (widths s) (c.unwrap_or-components.result + c.unwrap_or-elements.result) (omega (arith, m, n, length_widths s))
-
-pub overflow_add-result : goal.overflow_add-result
-overflow_add-result c = record { fits = omega (arith, bits c, total_few (rows_held c.args.sheet.now) c.args.sheet.now.accepted) }
-
-pub returns : goal.returns
-returns c =
-    let few = total_few (rows_held c.args.sheet.now) c.args.sheet.now.accepted in
-    record { value = ap bytes_for (bits c); few = omega (arith, bits c, few) }
+    let bits : c.bits_before.result ≡ total (widths s) = c.bits_before.ensures ∙ place_all (widths s) (c.unwrap_or-components.result + c.unwrap_or-elements.result) (omega (arith, m, n, length_widths s)) in
+    let few = total_few s a in
+    record { value = omega (arith, bits, c.div_ceil.ensures); few = omega (arith, bits, few, c.div_ceil.ensures) }

@@ -1,4 +1,4 @@
-use Rattle.std.proofs.Common.{◌^◌, ◌<◌, get_or, set, sym, refl, ap, ◌∙◌, subst, rules}
+use Rattle.std.proofs.Common.{◌^◌, ◌<◌, get_or, set, sym, refl, ap, ◌∙◌, subst}
 use Rattle.image.specs.Bits.{number_of}
 use Rattle.image.specs.Reading.{widths, numbers_in, state_from}
 use Rattle.image.proofs.Changes.{mode_set}
@@ -12,7 +12,6 @@ put_in_field-requires c =
     let p = mode_place s c.args.component c.args.mode c.requires.has in
     record {
       inside = field_of_mode s c.args.component p.inside;
-      long = search rules;
       room = subst (λ m. m < 2 ^ get_or (widths s) c.args.component 0) (sym c.from.ensures) p.room;
       spare = c.requires.fits.fits;
     }

@@ -1,16 +1,13 @@
 use Rattle.std.proofs.Common.{◌≡◌, ◌+◌, ◌<◌, length, set, sym, refl, ap, ◌∙◌, subst, ap₂, arith, w32, SFits, rules}
-use lib.Signed.{le_z}
 use Rattle.std.proofs.lemmas.Int.{to_z-of_z}
-use Rattle.std.proofs.lemmas.Bool.{and_parts}
 use Rattle.image.specs.Bits.{number_of}
 use Rattle.image.specs.Fields.{above}
 use Rattle.image.specs.Reading.{widths, numbers_in, state_from}
 use Rattle.image.proofs.Changes.{value_set}
-use Rattle.image.proofs.Entries.{ranged_at}
 use Rattle.sheet.specs.Sections.{components, elements}
 use Rattle.sheet.proofs.Shapes.{count_is, sized}
 use Rattle.packed_rig.specs.Tables.{rows_in}
-use Rattle.packed_rig.proofs.Places.{field_of_value, value_place, numbers_long, below_most}
+use Rattle.packed_rig.proofs.Places.{field_of_value, value_place, numbers_long}
 use Rattle.packed_rig.proofs.store.TablesStore.set_value.Goals as goal
 
 pub overflow_add-components : goal.overflow_add-components
@@ -21,18 +18,6 @@ overflow_add-components c =
     let p = value_place s c.args.element c.in-Some.x (sym c.in-Some.ensures) c.args.value c.requires.holds in
     record { fits = omega (arith, n, p.inside, (sized s components a (omega arith)).few, (sized s elements a (omega arith)).few) }
 
-pub above-requires : goal.above-requires
-above-requires c =
-    let s = rows_in c.args.self.now in
-    let x = c.in-Some.x in
-    let v = c.args.value in
-    let here = sym c.in-Some.ensures in
-    let low : SFits w32 x.lowest = search rules in
-    let g = ranged_at s c.args.element x here in
-    let within = (value_place s c.args.element x here v c.requires.holds).within in
-    let q = and_parts (le_z x.lowest v) (le_z v x.highest) within in
-    rw (to_z-of_z w32 x.lowest low, to_z-of_z w32 v c.ranges.value) (record { ordered = q.0; least = g.least; most = below_most v x.highest q.1 g.most })
-
 pub put_in_field-requires : goal.put_in_field-requires
 put_in_field-requires c =
     let s = rows_in c.args.self.now in
@@ -41,11 +26,10 @@ put_in_field-requires c =
     let here = sym c.in-Some.ensures in
     let n = c.unwrap_or-components.ensures ∙ count_is s components c.args.self.now.sheet.accepted (omega arith) c.count.result c.count.ensures in
     let low : SFits w32 c.in-Some.x.lowest = search rules in
-    let number : c.above.result ≡ above c.in-Some.x.lowest c.args.value = c.above.ensures ∙ ap₂ above (to_z-of_z w32 c.in-Some.x.lowest low) (to_z-of_z w32 c.args.value c.ranges.value) in
+    let number : c.abs_diff.result ≡ above c.in-Some.x.lowest c.args.value = c.abs_diff.ensures ∙ ap₂ above (to_z-of_z w32 c.in-Some.x.lowest low) (to_z-of_z w32 c.args.value c.ranges.value) in
     let p = value_place s e x here c.args.value c.requires.holds in
     record {
       inside = subst (λ k. k + e < length (widths s)) (sym n) (field_of_value s e x here);
-      long = search rules;
       room = rw (n, number) p.room;
       spare = c.requires.fits.fits;
     }
@@ -61,7 +45,7 @@ returns c =
     let n = c.unwrap_or-components.ensures ∙ count_is s components x.sheet.accepted (omega arith) c.count.result c.count.ensures in
     let p = value_place s e c.in-Some.x (sym c.in-Some.ensures) v c.requires.holds in
     let low : SFits w32 c.in-Some.x.lowest = search rules in
-    let number : c.above.result ≡ above c.in-Some.x.lowest c.args.value = c.above.ensures ∙ ap₂ above (to_z-of_z w32 c.in-Some.x.lowest low) (to_z-of_z w32 c.args.value c.ranges.value) in
+    let number : c.abs_diff.result ≡ above c.in-Some.x.lowest c.args.value = c.abs_diff.ensures ∙ ap₂ above (to_z-of_z w32 c.in-Some.x.lowest low) (to_z-of_z w32 c.args.value c.ranges.value) in
     let numbers = c.put_in_field.ensures.numbers ∙ ap₂ (λ m y. set ns (m + e) y) n number in
     record {
       still_fits = c.put_in_field.ensures.still_spare;

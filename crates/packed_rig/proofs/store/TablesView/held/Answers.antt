@@ -21,7 +21,7 @@ number_in_field-number-requires c =
     let s = rows_in c.args.self.now in
     let e = c.args.element in
     let n = c.unwrap_or-components.ensures ∙ count_is s components c.args.self.now.sheet.accepted (omega arith) c.count.result c.count.ensures in
-    record { inside = subst (λ k. k + e < length (widths s)) (sym n) (field_of_value s e c.in-Some.x (sym c.in-Some.ensures)); long = search rules }
+    subst (λ k. k + e < length (widths s)) (sym n) (field_of_value s e c.in-Some.x (sym c.in-Some.ensures))
 
 pub overflow_cast-result : goal.overflow_cast-result
 overflow_cast-result c =

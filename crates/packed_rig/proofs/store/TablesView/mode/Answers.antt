@@ -1,4 +1,4 @@
-use Rattle.std.proofs.Common.{◌<◌, sym, ◌∙◌, subst, arith, rules}
+use Rattle.std.proofs.Common.{◌<◌, sym, ◌∙◌, subst, arith}
 use Rattle.image.specs.Bits.{number_of}
 use Rattle.image.specs.Reading.{widths, numbers_in}
 use Rattle.image.proofs.Changes.{mode_read, mode_past}
@@ -12,7 +12,7 @@ pub number_in_field-requires : goal.number_in_field-requires
 number_in_field-requires c =
     let s = rows_in c.args.self.now in
     let n = c.unwrap_or-components.ensures ∙ count_is s components c.args.self.now.sheet.accepted (omega arith) c.count.result c.count.ensures in
-    record { inside = field_of_mode s c.args.component (subst (λ n. c.args.component < n) n c.if-component-components.true); long = search rules }
+    field_of_mode s c.args.component (subst (λ n. c.args.component < n) n c.if-component-components.true)
 
 pub overflow_cast-result : goal.overflow_cast-result
 overflow_cast-result c =
