@@ -7,6 +7,7 @@ ghost use Rattle.reader.specs.Means.{rows_held};
 
 use crate::width::field_bits;
 use reader::accepted::AcceptedSheet;
+use sheet::sizes::{COMPONENTS, ELEMENTS};
 
 // The bits before a field.
 pub(crate) fn bits_before(sheet: &AcceptedSheet, i: usize) -> usize
@@ -21,7 +22,7 @@ pub fn image_length(sheet: &AcceptedSheet) -> usize
     ensures value { result ≡ bytes_for (total (widths (rows_held sheet.now))) }
     ensures few { result ≤ 136 }
 {
-    let components = sheet.count(0).unwrap_or(0);
-    let elements = sheet.count(1).unwrap_or(0);
+    let components = sheet.count(COMPONENTS).unwrap_or(0);
+    let elements = sheet.count(ELEMENTS).unwrap_or(0);
     bits_before(sheet, components + elements).div_ceil(8)
 }

@@ -8,22 +8,23 @@ ghost use Rattle.fields.specs.Held.{bits_of_mode, bits_of_value};
 
 use bits::length::bit_length;
 use reader::accepted::AcceptedSheet;
-use sheet::rows::{Element, Kind};
+use sheet::rows::{Component, Element, Kind};
+use sheet::sizes::COMPONENTS;
 
 // The bits of a component's mode.
 fn mode_bits(sheet: &AcceptedSheet, c: usize) -> u32
     ensures { result ≡ bits_of_mode (component_at (rows_held sheet.now) c) }
 {
     sheet
-        .component(c)
-        .map_or(0, |x| bit_length(u32::from(x.modes)))
+        .row(c)
+        .map_or(0, |x: Component| bit_length(u32::from(x.modes)))
 }
 
 // The bits of an element's value; none unless it is held.
 fn value_bits(sheet: &AcceptedSheet, e: usize) -> u32
     ensures { result ≡ bits_of_value (element_at (rows_held sheet.now) e) }
 {
-    match sheet.element(e) {
+    match sheet.row(e) {
         Some(
             Element {
                 kind: Kind::Held,
@@ -42,7 +43,7 @@ pub(crate) fn field_bits(sheet: &AcceptedSheet, i: usize) -> u32
     ensures value { result ≡ slice_index (widths (rows_held sheet.now)) i }
     ensures few { result ≤ 16 }
 {
-    let components = sheet.count(0).unwrap_or(0);
+    let components = sheet.count(COMPONENTS).unwrap_or(0);
     if i < components {
         mode_bits(sheet, i)
     } else {

@@ -2,11 +2,14 @@
 
 ghost use Rattle.std.specs.Prelude.{◌≡◌, ℕ, true, List};
 ghost use Rattle.running.specs.States.{State};
-ghost use Rattle.packed_rig.specs.Tables.{rows_in, state_in, Spare};
+ghost use Rattle.packed_rig.specs.Tables.{rows_in, state_in};
+ghost use Rattle.packed_rig.specs.Places.{placed_bytes};
 
 use crate::tables::Tables;
 use fields::field::{number_in_field, put_in_field};
 use moves::store::Store;
+use sheet::rows::Element;
+use sheet::sizes::COMPONENTS;
 use view::view::View;
 
 impl View for Tables {
@@ -14,7 +17,7 @@ impl View for Tables {
 
     ghost state = { state_in };
 
-    ghost fits = { Spare };
+    ghost accepts = { λ x. x.sheet.accepted };
 
     fn count(&self, section: usize) -> Option<usize> {
         self.sheet.count(section)
@@ -25,7 +28,7 @@ impl View for Tables {
     }
 
     fn mode(&self, component: usize) -> u8 {
-        let components = self.sheet.count(0).unwrap_or(0);
+        let components = self.sheet.count(COMPONENTS).unwrap_or(0);
         if component < components {
             number_in_field(&self.sheet, &self.state.bytes, component) as u8
         } else {
@@ -34,16 +37,18 @@ impl View for Tables {
     }
 
     fn held(&self, element: usize) -> i32 {
-        let Some(x) = self.sheet.element(element) else {
+        let Some(x) = self.sheet.row::<_, Element>(element) else {
             return 0;
         };
-        let components = self.sheet.count(0).unwrap_or(0);
+        let components = self.sheet.count(COMPONENTS).unwrap_or(0);
         let number = number_in_field(&self.sheet, &self.state.bytes, components + element);
         x.lowest + number as i32
     }
 }
 
 impl Store for Tables {
+    ghost placed = { λ x. placed_bytes (rows_in x) x.state.bytes };
+
     fn set_mode(&mut self, component: usize, mode: u8) {
         put_in_field(
             &self.sheet,
@@ -54,10 +59,10 @@ impl Store for Tables {
     }
 
     fn set_value(&mut self, element: usize, value: i32) {
-        let Some(x) = self.sheet.element(element) else {
+        let Some(x) = self.sheet.row::<_, Element>(element) else {
             return;
         };
-        let components = self.sheet.count(0).unwrap_or(0);
+        let components = self.sheet.count(COMPONENTS).unwrap_or(0);
         put_in_field(
             &self.sheet,
             &mut self.state.bytes,

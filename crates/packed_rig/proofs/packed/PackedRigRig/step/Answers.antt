@@ -5,9 +5,6 @@ use Rattle.running.proofs.Stepped.{state_as}
 use Rattle.packed_rig.specs.Tables.{rows_in, state_in}
 use Rattle.packed_rig.proofs.packed.PackedRigRig.step.Goals as goal
 
-pub make_step-requires : goal.make_step-requires
-make_step-requires c = record { fits = c.requires.spare; accepts = c.args.self.now.tables.sheet.accepted }
-
 pub returns : goal.returns
 returns c =
     let s = rows_in c.args.self.now.tables in
@@ -17,7 +14,7 @@ returns c =
     let made = c.make_step.ensures in
     record {
       still_fits = record {
-        spare = made.still_fits;
+        spare = y.spare;
         state_of = state_as s (rows_in y) (step_state s w x) (state_in y) made.rows made.state (step_keeps_states s w x c.args.self.now.tables.sheet.accepted c.requires.state_of);
       };
       made_when_possible = made_when_possible_as s w x c.make_step.result made.reply;
