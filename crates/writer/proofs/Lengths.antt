@@ -1,11 +1,10 @@
 -- The lengths of sections, from what their counts are.
-use Rattle.std.proofs.Common.{◌≡◌, ℕ, zero, suc, ◌+◌, ◌*◌, ◌<◌, ◌≤◌, true, List, [], ◌∷◌, length, get_or, Some, None, Option, map, sym, sum, refl, ap, ap₂, ◌∙◌, mul-le-mul, arith}
+use Rattle.std.proofs.Common.{◌≡◌, ℕ, zero, suc, ◌+◌, ◌*◌, ◌<◌, ◌≤◌, true, List, [], ◌∷◌, length, get_or, map, sym, sum, refl, ap, ap₂, ◌∙◌, mul-le-mul, arith}
 use Rattle.std.specs.List.{range_with_len}
 use Rattle.std.proofs.lemmas.List.{length-append}
 use Rattle.std.proofs.lemmas.List.Sums.{sum_by-cons}
 use Rattle.sheet.specs.Sections.{Sheet, rows, shape, shapes, Shape, section_bytes, bytes_of, width_of}
 use Rattle.sheet.specs.Accept.{accepted}
-use Rattle.sheet.specs.Cells.{count_of}
 use Rattle.sheet.proofs.Shapes.{sized, nine_sections}
 
 -- the bytes of a row of each section, in their order
@@ -20,23 +19,16 @@ widths_at (h ∷ hs) (suc k) = widths_at hs k
 pub width_is : (k : ℕ) → get_or widths k 0 ≡ width_of k
 width_is k = widths_at shapes k
 
-module _ (s : Sheet) (k : ℕ) (a : accepted s ≡ true) (l : k < 9) where
-  -- a section of an accepted sheet has a count
-  pub not_missing : {A : Type 0} → ◌≡◌ {A = Option ℕ} None (count_of s k) → A
-  not_missing e = absurd (let h = (sized s k a l).counted in let z : ◌≡◌ {A = ℕ} 0 1 = cc in omega arith)
+-- the length of a section of an accepted sheet, from its number of rows
+module _ (s : Sheet) (k : ℕ) (a : accepted s ≡ true) (l : k < 9) (n : ℕ) (e : n ≡ length (rows s k)) where
+  pub length_is : 1 + n * get_or widths k 0 ≡ length (section_bytes (rows s k))
+  length_is = (λ i. 1 + e i * width_is k i) ∙ sym (sized s k a l).long
 
-  module _ (n : ℕ) (e : Some n ≡ count_of s k) where
-    pub count_is : n ≡ length (rows s k)
-    count_is = let h = (sized s k a l).counted in cc
-
-    pub few_rows : n ≤ 128
-    few_rows = omega (arith, count_is, (sized s k a l).few)
-
-    pub length_is : 1 + n * get_or widths k 0 ≡ length (section_bytes (rows s k))
-    length_is = (λ i. 1 + count_is i * width_is k i) ∙ sym (sized s k a l).long
-
-    pub length_few : n * get_or widths k 0 ≤ 1024
-    length_few = let narrow : get_or widths k 0 ≤ 8 = omega (arith, width_is k, (sized s k a l).narrow) in mul-le-mul few_rows narrow
+  pub length_few : n * get_or widths k 0 ≤ 1024
+  length_few =
+      let few : n ≤ 128 = omega (arith, e, (sized s k a l).few) in
+      let narrow : get_or widths k 0 ≤ 8 = omega (arith, width_is k, (sized s k a l).narrow) in
+      mul-le-mul few narrow
 
 -- the lengths of all sections add up to that of the sheet
 added : (f : ℕ → ℕ) (n j : ℕ) (s : Sheet) → n ≡ length s → ((k : ℕ) → k < n → f (j + k) ≡ length (section_bytes (rows s k))) → sum (map f (range_with_len j n)) ≡ length (bytes_of s)

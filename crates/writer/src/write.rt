@@ -27,6 +27,16 @@ const ROW_BYTES: [usize; SECTIONS] = [
     QUESTION_BYTES,
 ];
 
+// The number of rows of a section.
+fn row_count<R: Rig>(rig: &R, section: usize) -> usize
+    requires fits { R.Rig.fits rig.now }
+    requires there { section < 9 }
+    ensures value { result ≡ length (rows (R.Rig.rows rig.now) section) }
+    ensures few { result ≤ 128 }
+{
+    rig.count(section).unwrap_or(0)
+}
+
 // The bytes of a section.
 fn section_length<R: Rig>(rig: &R, section: usize) -> usize
     requires fits { R.Rig.fits rig.now }
@@ -34,10 +44,7 @@ fn section_length<R: Rig>(rig: &R, section: usize) -> usize
     ensures value { result ≡ length (section_bytes (rows (R.Rig.rows rig.now) section)) }
     ensures few { result ≤ 1025 }
 {
-    match rig.count(section) {
-        Some(count) => 1 + count * ROW_BYTES[section],
-        None => 0,
-    }
+    1 + row_count(rig, section) * ROW_BYTES[section]
 }
 
 // The bytes of the sheet.
@@ -73,9 +80,7 @@ impl Filling<'_> {
         requires room { self.old.filled + length (section_bytes (rows (R.Rig.rows rig.now) section)) ≤ length self.old.buffer.now }
         ensures { Filled self.old (section_bytes (rows (R.Rig.rows rig.now) section)) self.new }
     {
-        let Some(count) = rig.count(section) else {
-            return;
-        };
+        let count = row_count(rig, section);
         self.put(&[count as u8]);
         for row in 0..count {
             self.put_row(rig, section, row);
