@@ -1,3 +1,4 @@
 pub mod Bytes
+pub mod Carried
 pub mod Starts
 pub mod Tables

@@ -3,7 +3,7 @@
 ghost use Rattle.std.specs.Prelude.{◌≡◌, ℕ, slice_index_or};
 ghost use Rattle.running.specs.Steps.{carries, any_carries, replied, step_reply};
 ghost use Rattle.running.specs.Values.{nothing, node_value};
-ghost use Rattle.sheet.specs.Lookup.{is};
+ghost use Rattle.sheet.specs.Lookup.{connection_at, is};
 ghost use Rattle.sheet.specs.Sections.{rows as rows_in_section, connections};
 ghost use Rattle.view.specs.Checks.{is_in_from_mode, has_true_guard, transition_or_refusal, alone_fault, goes, are_a_pair, is_carried as carried_by, pair_fault};
 
@@ -136,11 +136,11 @@ impl<'a, V: View> Worked<'a, V> {
             && x.component != y.component
     }
 
-    // Whether the connection carries the one event to the other.
-    fn carries(&self, k: Option<Connection>, out: u8, into: u8) -> bool
-        ensures { result ≡ is k (carries (V.View.state self.now.view.now) out into) }
+    // Whether connection i carries the one event to the other.
+    fn carries(&self, i: usize, out: u8, into: u8) -> bool
+        ensures { result ≡ is (connection_at (V.View.rows self.now.view.now) i) (carries (V.View.state self.now.view.now) out into) }
     {
-        let Some(x) = k else {
+        let Some(x) = row::<_, Connection, _>(self.view, i) else {
             return false;
         };
         x.out_event == out
@@ -153,12 +153,7 @@ impl<'a, V: View> Worked<'a, V> {
         ensures { result ≡ any_carries (V.View.state self.now.view.now) out into (rows_in_section (V.View.rows self.now.view.now) connections) }
     {
         let count = self.view.count(CONNECTIONS).unwrap_or(0);
-        for i in 0..count {
-            if self.carries(row(self.view, i), out, into) {
-                return true;
-            }
-        }
-        false
+        (0..count).any(|i| self.carries(i, out, into))
     }
 
     fn is_carried(&self, sent: Option<u8>, heard: Option<u8>) -> bool

@@ -13,8 +13,8 @@ fn bytes_of<const N: usize, R: FromRow<N>, V: View>(view: &V, row: usize) -> Opt
     ensures { result ≡ slice_get (rows_in_section (V.View.rows view.now) R.FromRow.SECTION) row }
 {
     let mut bytes = [0u8; N];
-    for place in 0..N {
-        bytes[place] = view.byte(R::SECTION, row, place)?;
+    for (place, byte) in bytes.iter_mut().enumerate() {
+        *byte = view.byte(R::SECTION, row, place)?;
     }
     Some(bytes)
 }

@@ -7,14 +7,14 @@ use Rattle.view.proofs.typed.bytes_of.Goals as goal
 pub loop-place-init : goal.loop-place-init
 loop-place-init g c = record { long = length-replicate g.row.N 0; inside = omega arith; same = refl }
 
-pub returns-in_err-bytes : goal.returns-in_err-bytes
-returns-in_err-bytes g c =
-    c.from_residual.ensures ∙ row_missing (g.V.View.rows c.args.view.now) g.R.FromRow.SECTION c.args.row g.row.N (g.met.V.View.accepts c.args.view.now) g.met.R.FromRow.wide c.loop-place.place c.loop-place-test.true (rw c.SECTION.ensures at c.in_err-bytes.ensures)
+pub returns-in_err-byte : goal.returns-in_err-byte
+returns-in_err-byte g c =
+    c.from_residual.ensures ∙ row_missing (g.V.View.rows c.args.view.now) g.R.FromRow.SECTION c.args.row g.row.N (g.met.V.View.accepts c.args.view.now) g.met.R.FromRow.wide c.loop-place.place c.loop-place-test.true (rw c.SECTION.ensures at c.in_err-byte.ensures)
 
 pub loop-place-preserved : goal.loop-place-preserved
 loop-place-preserved g c =
-    taken_more (get_or (rows (g.V.View.rows c.args.view.now) g.R.FromRow.SECTION) c.args.row []) c.loop-place.bytes g.row.N c.loop-place.place c.loop-place.invariant c.in_ok-bytes.field-0 c.loop-place-test.true (rw c.SECTION.ensures at c.in_ok-bytes.ensures)
+    taken_more (get_or (rows (g.V.View.rows c.args.view.now) g.R.FromRow.SECTION) c.args.row []) c.loop-place.byte-items g.row.N c.loop-place.place c.loop-place.invariant c.in_ok-byte.field-0 c.loop-place-test.true (rw c.SECTION.ensures at c.in_ok-byte.ensures)
 
 pub returns : goal.returns
 returns g c =
-    row_whole (g.V.View.rows c.args.view.now) g.R.FromRow.SECTION c.args.row g.row.N (g.met.V.View.accepts c.args.view.now) g.met.R.FromRow.wide c.loop-place.bytes c.loop-place.place g.met.R.FromRow.some c.loop-place-test.false c.loop-place.invariant
+    row_whole (g.V.View.rows c.args.view.now) g.R.FromRow.SECTION c.args.row g.row.N (g.met.V.View.accepts c.args.view.now) g.met.R.FromRow.wide c.loop-place.byte-items c.loop-place.place g.met.R.FromRow.some c.loop-place-test.false c.loop-place.invariant
