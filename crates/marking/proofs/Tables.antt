@@ -1,6 +1,7 @@
 -- Tables of marks: one more mark, and tables that grow.
-use Rattle.std.proofs.Common.{◌≡◌, ℕ, suc, ◌+◌, ◌*◌, ◌<◌, ◌≤◌, Bool, true, false, cond, ◌&&◌, ltb, leb, List, [], ◌∷◌, length, get_or, drop, replicate, is_some, Some, None, Option, sym, refl, ap, ◌∙◌, ⊎_elim, add-one, arith}
-use Rattle.std.proofs.lemmas.List.{at_drop_more, drop_all, get_or_past, get_or-replicate, length-replicate, get_or-set_same, get_or-set_other, length-set, set_past}
+use Rattle.std.proofs.Common.{◌≡◌, ℕ, suc, ◌+◌, ◌*◌, ◌<◌, ◌≤◌, Bool, true, false, cond, not, ◌&&◌, ltb, leb, List, [], ◌∷◌, length, get_or, replicate, is_some, Some, None, Option, sym, refl, ap, ◌∙◌, ⊎_elim, add-one, arith}
+use Rattle.std.proofs.lemmas.List.{get_or_past, get_or-replicate, length-replicate, get_or-set_same, get_or-set_other, length-set, set_past}
+use Rattle.std.proofs.lemmas.List.Recursion.{is_count_by}
 use Rattle.std.proofs.lemmas.Bool.{false≢true, and_parts, ltb-true, leb-true, lt-ltb, le-leb, cases_lt, cases_eq, cond-true, cond-false}
 use Rattle.sheet.specs.Lookup.{is}
 use Rattle.sheet.proofs.Firsts.{no_pass}
@@ -174,22 +175,21 @@ module _ (table : List Bool) (c set n : ℕ) where
   pub modes_unlisted : lists set n ≡ false → with_modes table c set n ≡ with_modes table c set (n + 1)
   modes_unlisted h = rw add-one (sym (cond-false (lists set n) (with_mark (with_modes table c set n) (ThatThing (Mode c n))) (with_modes table c set n) h))
 
--- ---- what is left to mark, place by place
-
-pub unmarked_most : (t : List Bool) → unmarked t ≤ length t
-unmarked_most [] = omega arith
-unmarked_most (true ∷ t) = let r = unmarked_most t in omega arith
-unmarked_most (false ∷ t) = let r = unmarked_most t in omega arith
-
-pub unmarked_more : (t : List Bool) (p : ℕ) (b : Bool) → p < length t → get_or t p false ≡ b → unmarked (drop p t) ≡ cond b 0 1 + unmarked (drop (p + 1) t)
-unmarked_more t p b l e = at_drop_more unmarked t p false l ∙ ap (λ b. cond b 0 1 + unmarked (drop (p + 1) t)) e
-
-pub unmarked_none : (t : List Bool) (p : ℕ) → length t ≤ p → unmarked (drop p t) ≡ 0
-unmarked_none t p l = ap unmarked (drop_all p t l)
-
 -- ---- tables that grow
 
-pub grown_fewer : (a b : List Bool) → length b ≡ length a → ((p : ℕ) → get_or a p false ≡ true → get_or b p false ≡ true) → unmarked b ≤ unmarked a
+-- the places that are not marked, one after the other
+abbrev left : List Bool → ℕ
+left [] = 0
+left (b ∷ bs) = cond b 0 1 + left bs
+
+left_more : (b : Bool) (bs : List Bool) → left (b ∷ bs) ≡ cond (not b) (1 + left bs) (left bs)
+left_more true bs = omega arith
+left_more false bs = refl
+
+left_is : (t : List Bool) → left t ≡ unmarked t
+left_is t = is_count_by left not refl left_more t
+
+grown_fewer : (a b : List Bool) → length b ≡ length a → ((p : ℕ) → get_or a p false ≡ true → get_or b p false ≡ true) → left b ≤ left a
 grown_fewer [] [] l g = omega arith
 grown_fewer [] (y ∷ b) l g = absurd (omega arith)
 grown_fewer (x ∷ a) [] l g = absurd (omega arith)
@@ -198,12 +198,15 @@ grown_fewer (true ∷ a) (false ∷ b) l g = absurd (false≢true (g 0 refl))
 grown_fewer (false ∷ a) (true ∷ b) l g = let r = grown_fewer a b (omega arith) (λ p h. g (suc p) h) in omega arith
 grown_fewer (false ∷ a) (false ∷ b) l g = let r = grown_fewer a b (omega arith) (λ p h. g (suc p) h) in omega arith
 
+grown_equal : (a b : List Bool) → length b ≡ length a → ((p : ℕ) → get_or a p false ≡ true → get_or b p false ≡ true) → left a ≤ left b → b ≡ a
+grown_equal [] [] l g u = refl
+grown_equal [] (y ∷ b) l g u = absurd (omega arith)
+grown_equal (x ∷ a) [] l g u = absurd (omega arith)
+grown_equal (true ∷ a) (true ∷ b) l g u = ap (λ t. true ∷ t) (grown_equal a b (omega arith) (λ p h. g (suc p) h) (omega arith))
+grown_equal (true ∷ a) (false ∷ b) l g u = absurd (false≢true (g 0 refl))
+grown_equal (false ∷ a) (true ∷ b) l g u = let r = grown_fewer a b (omega arith) (λ p h. g (suc p) h) in absurd (omega arith)
+grown_equal (false ∷ a) (false ∷ b) l g u = ap (λ t. false ∷ t) (grown_equal a b (omega arith) (λ p h. g (suc p) h) (omega arith))
+
 -- a table that has grown and has as many marks as before is the same
 pub grown_same : (a b : List Bool) → length b ≡ length a → ((p : ℕ) → get_or a p false ≡ true → get_or b p false ≡ true) → unmarked a ≤ unmarked b → b ≡ a
-grown_same [] [] l g u = refl
-grown_same [] (y ∷ b) l g u = absurd (omega arith)
-grown_same (x ∷ a) [] l g u = absurd (omega arith)
-grown_same (true ∷ a) (true ∷ b) l g u = ap (λ t. true ∷ t) (grown_same a b (omega arith) (λ p h. g (suc p) h) (omega arith))
-grown_same (true ∷ a) (false ∷ b) l g u = absurd (false≢true (g 0 refl))
-grown_same (false ∷ a) (true ∷ b) l g u = let r = grown_fewer a b (omega arith) (λ p h. g (suc p) h) in absurd (omega arith)
-grown_same (false ∷ a) (false ∷ b) l g u = ap (λ t. false ∷ t) (grown_same a b (omega arith) (λ p h. g (suc p) h) (omega arith))
+grown_same a b l g u = grown_equal a b l g (omega (arith, u, left_is a, left_is b))

@@ -1,4 +1,4 @@
-use Rattle.std.proofs.Common.{◌-◌, Bool, List, sym, subst, arith}
+use Rattle.std.proofs.Common.{◌-◌, Bool, List, sym, subst, arith, rules}
 use Rattle.sheet.proofs.Shapes.{count_is}
 use Rattle.marking.specs.Passes.{Passed}
 use Rattle.marking.proofs.Walks.{RowsFrom, rows_none, rows_more, rows_blank, rows_all}
@@ -18,7 +18,7 @@ loop-row-preserved-in-Some g c =
     let a = c.args.marks.now.table in
     let b = c.loop-row.marks.table in
     subst (λ (t : List Bool). Passed s (RowsFrom section (n - 1)) a t) (sym c.apply.ensures)
-    (rows_more s section n a b c.loop-row.invariant c.requires.fits.accepts c.requires.whole c.loop-row-test.true c.in-Some.rule (sym c.in-Some.ensures))
+    (rows_more s section n a b c.loop-row.invariant c.requires.fits.accepts (search rules) c.loop-row-test.true c.in-Some.rule (sym c.in-Some.ensures))
 
 pub loop-row-preserved : goal.loop-row-preserved
 loop-row-preserved g c =
