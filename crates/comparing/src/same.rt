@@ -21,26 +21,15 @@ pub(crate) fn is_same_answer<P: Rig, W: Rig>(pile: &P, whole: &W, q: usize) -> b
     requires whole { W.Rig.fits whole.now }
     ensures { Decides result (IsKeptQuestion (P.Rig.rows pile.now) q → answer_of (W.Rig.rows whole.now) (W.Rig.means whole.now).state q ≡ answer_of (P.Rig.rows pile.now) (P.Rig.means pile.now).state q) }
 {
-    let Ok(here) = answer(pile, q) else {
-        return true;
-    };
-    let Ok(there) = answer(whole, q) else {
-        return false;
-    };
-    here == there
+    let here = answer(pile, q);
+    here.is_err() || here == answer(whole, q)
 }
 
 // Whether the second tells the same as the first, if the first tells anything.
 fn is_told_alike(here: Option<i32>, there: Option<i32>) -> bool
     ensures { Decides result (is_some here ≡ true → there ≡ here) }
 {
-    let Some(x) = here else {
-        return true;
-    };
-    let Some(y) = there else {
-        return false;
-    };
-    x == y
+    here.is_none() || here == there
 }
 
 // Whether an element has the same value on both, if the pile kept it.
@@ -58,12 +47,7 @@ fn are_same_answers<P: Rig, W: Rig>(pile: &P, whole: &W) -> bool
     requires whole { W.Rig.fits whole.now }
     ensures { Decides result ((q : ℕ) → IsKeptQuestion (P.Rig.rows pile.now) q → answer_of (W.Rig.rows whole.now) (W.Rig.means whole.now).state q ≡ answer_of (P.Rig.rows pile.now) (P.Rig.means pile.now).state q) }
 {
-    for q in 0..QUESTIONS {
-        if !is_same_answer(pile, whole, q) {
-            return false;
-        }
-    }
-    true
+    (0..QUESTIONS).all(|q| is_same_answer(pile, whole, q))
 }
 
 // Whether every element that the pile kept has the same value on both.
@@ -72,12 +56,7 @@ fn are_same_values<P: Rig, W: Rig>(pile: &P, whole: &W) -> bool
     requires whole { W.Rig.fits whole.now }
     ensures { Decides result ((e : ℕ) → IsKeptElement (P.Rig.rows pile.now) e → value_at (W.Rig.rows whole.now) (W.Rig.means whole.now).state e ≡ value_at (P.Rig.rows pile.now) (P.Rig.means pile.now).state e) }
 {
-    for e in 0..ELEMENTS {
-        if !is_same_value(pile, whole, e) {
-            return false;
-        }
-    }
-    true
+    (0..ELEMENTS).all(|e| is_same_value(pile, whole, e))
 }
 
 // Whether both tell the same of every question and element that the pile kept.
@@ -111,9 +90,5 @@ pub(crate) fn is_kept_step<P: Rig>(pile: &P, step: Step) -> bool
 pub(crate) fn is_same_reply(here: Result<(), StepRefusal>, there: Result<(), StepRefusal>) -> bool
     ensures { Decides result (there ≡ here) }
 {
-    match (here, there) {
-        (Ok(()), Ok(())) => true,
-        (Err(x), Err(y)) => x == y,
-        _ => false,
-    }
+    here == there
 }
