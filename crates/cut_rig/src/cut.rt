@@ -99,9 +99,7 @@ impl<R: Rig> Rig for Cut<R> {
     }
 
     fn byte(&self, section: usize, row: usize, place: usize) -> Option<u8> {
-        let Some(byte) = self.below.byte(section, row, place) else {
-            return None;
-        };
+        let byte = self.below.byte(section, row, place)?;
         if section == 0 {
             let start = if place == 1 {
                 self.tables.shown_mode(row as u8, byte)
@@ -121,9 +119,7 @@ impl<R: Rig> Rig for Cut<R> {
     }
 
     fn mode(&self, component: usize) -> Option<u8> {
-        let Some(mode) = self.below.mode(component) else {
-            return None;
-        };
+        let mode = self.below.mode(component)?;
         Some(self.tables.shown_mode(component as u8, mode))
     }
 

@@ -1,6 +1,6 @@
 // Which rows stay.
 
-ghost use Rattle.std.specs.Prelude.{◌≡◌, ℕ, ◌+◌, ◌*◌, ◌<◌, Bool, true, false, Some, MatchResult, slice_index_or};
+ghost use Rattle.std.specs.Prelude.{◌≡◌, ℕ, ◌<◌, false, [], Some, MatchResult, slice_index_or};
 ghost use Rattle.closing.specs.Marks.{kept_of, KeepsFor};
 ghost use Rattle.cut_rig.specs.Tables.{kept_in, stays_in, TablesFit};
 ghost use Rattle.cutting.specs.CutCells.{row_stays, blank_byte};
@@ -9,7 +9,7 @@ ghost use Rattle.cutting.specs.Kept.{keeps_from, chosen_in};
 ghost use Rattle.sheet.specs.Lookup.{is, transition_at, connection_at, setting_at};
 ghost use Rattle.view.specs.Fit.{Fit};
 
-use crate::tables::{PLACES, ROWS, Tables};
+use crate::tables::{ROWS, Tables};
 use closing::close::kept_things;
 use closing::marks::Marks;
 use cutting::kinds::{NoCut, QuestionSet, Thing};
@@ -23,10 +23,7 @@ fn transition_stays<V: View>(view: &V, marks: &Marks, t: usize) -> bool
     requires { Fit (V.View.fits view.now) (V.View.rows view.now) }
     ensures { result ≡ is (transition_at (V.View.rows view.now) t) (keeps_from (kept_of marks.now)) }
 {
-    let Some(x) = transition(view, t) else {
-        return false;
-    };
-    marks.keeps(Thing::Mode(x.component, x.from))
+    transition(view, t).is_some_and(|x| marks.keeps(Thing::Mode(x.component, x.from)))
 }
 
 // Whether connection i is there and both its events are kept.
@@ -34,10 +31,9 @@ fn connection_stays<V: View>(view: &V, marks: &Marks, i: usize) -> bool
     requires { Fit (V.View.fits view.now) (V.View.rows view.now) }
     ensures { result ≡ is (connection_at (V.View.rows view.now) i) (keeps_events (kept_of marks.now)) }
 {
-    let Some(x) = connection(view, i) else {
-        return false;
-    };
-    marks.keeps(Thing::Event(x.out_event)) && marks.keeps(Thing::Event(x.in_event))
+    connection(view, i).is_some_and(|x| {
+        marks.keeps(Thing::Event(x.out_event)) && marks.keeps(Thing::Event(x.in_event))
+    })
 }
 
 // Whether setting i is there, its transition stays and its element is kept.
@@ -45,10 +41,10 @@ fn setting_stays<V: View>(view: &V, marks: &Marks, i: usize) -> bool
     requires { Fit (V.View.fits view.now) (V.View.rows view.now) }
     ensures { result ≡ is (setting_at (V.View.rows view.now) i) (keeps_setting (kept_of marks.now) (V.View.rows view.now)) }
 {
-    let Some(x) = setting(view, i) else {
-        return false;
-    };
-    transition_stays(view, marks, x.transition as usize) && marks.keeps(Thing::Element(x.element))
+    setting(view, i).is_some_and(|x| {
+        transition_stays(view, marks, x.transition as usize)
+            && marks.keeps(Thing::Element(x.element))
+    })
 }
 
 // Whether a row of a section other than the components stays.
@@ -62,10 +58,7 @@ fn stays<V: View>(view: &V, marks: &Marks, set: QuestionSet, section: usize, row
         1 => element(view, i).is_some() && marks.keeps(Thing::Element(row)),
         2 => event(view, i).is_some() && marks.keeps(Thing::Event(row)),
         3 => node(view, i).is_some() && marks.keeps_node(i),
-        4 => match flow(view, i) {
-            Some(x) => marks.keeps(Thing::Element(x.port)),
-            None => false,
-        },
+        4 => flow(view, i).is_some_and(|x| marks.keeps(Thing::Element(x.port))),
         5 => connection_stays(view, marks, i),
         6 => transition_stays(view, marks, i),
         7 => setting_stays(view, marks, i),
@@ -74,17 +67,30 @@ fn stays<V: View>(view: &V, marks: &Marks, set: QuestionSet, section: usize, row
     }
 }
 
-// For each row of each section whether it stays.
-fn staying_rows<V: View>(view: &V, marks: &Marks, set: QuestionSet) -> [bool; PLACES]
+// For each row of a section whether it stays.
+fn staying_of<V: View>(view: &V, marks: &Marks, set: QuestionSet, section: usize) -> [bool; ROWS]
     requires fit { Fit (V.View.fits view.now) (V.View.rows view.now) }
     requires keeps { KeepsFor (V.View.rows view.now) set marks.now }
-    ensures { (section i : ℕ) → section < 9 → i < 128 → slice_index_or result (128 * section + i) false ≡ row_stays (kept_of marks.now) (chosen_in set) (V.View.rows view.now) section i }
+    ensures { (i : ℕ) → i < 128 → slice_index_or result i false ≡ row_stays (kept_of marks.now) (chosen_in set) (V.View.rows view.now) section i }
 {
-    let mut rows = [false; PLACES];
-    for p in 0..PLACES {
-        rows[p] = stays(view, marks, set, p / ROWS, (p % ROWS) as u8);
+    let mut rows = [false; ROWS];
+    for (row, stay) in rows.iter_mut().enumerate() {
+        *stay = stays(view, marks, set, section, row as u8);
     }
     rows
+}
+
+// For each row of each section whether it stays.
+fn staying_rows<V: View>(view: &V, marks: &Marks, set: QuestionSet) -> [[bool; ROWS]; SECTIONS]
+    requires fit { Fit (V.View.fits view.now) (V.View.rows view.now) }
+    requires keeps { KeepsFor (V.View.rows view.now) set marks.now }
+    ensures { (section i : ℕ) → section < 9 → i < 128 → slice_index_or (slice_index_or result section []) i false ≡ row_stays (kept_of marks.now) (chosen_in set) (V.View.rows view.now) section i }
+{
+    let mut sections = [[false; ROWS]; SECTIONS];
+    for (section, rows) in sections.iter_mut().enumerate() {
+        *rows = staying_of(view, marks, set, section);
+    }
+    sections
 }
 
 impl Tables {
@@ -102,7 +108,7 @@ impl Tables {
     pub(crate) fn row_stays(&self, section: usize, row: usize) -> bool
         ensures { result ≡ stays_in self.now section row }
     {
-        section < SECTIONS && row < ROWS && self.rows[ROWS * section + row]
+        self.rows.get(section).and_then(|rows| rows.get(row)) == Some(&true)
     }
 
     // A mode of a component as the cut shows it.
