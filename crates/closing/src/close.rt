@@ -1,22 +1,22 @@
 // Marks added until a pass over the rows adds none.
 
-ghost use Rattle.std.specs.Prelude.{◌≡◌, ℕ, ◌<◌, true, false, length, Some, MatchResult};
+ghost use Rattle.std.specs.Prelude.{◌≡◌, ℕ, ◌<◌, true, false, Some, MatchResult};
 ghost use Rattle.cutting.specs.CutSheet.{cut_fault};
 ghost use Rattle.cutting.specs.Kept.{chosen_in};
-ghost use Rattle.marking.specs.Items.{places};
 ghost use Rattle.marking.specs.Passes.{unmarked as unmarked_in, OfSection, EveryRow, Passed, Asked, Settled};
-ghost use Rattle.view.specs.Fit.{Fit};
 ghost use Rattle.closing.specs.Marks.{KeepsFor};
 
 use crate::marks::Marks;
-use crate::rules::{NODES, QUESTIONS, rule_at};
+use crate::rules::rule_at;
 use cutting::kinds::{NoCut, QuestionSet};
 use marking::kinds::Item;
-use view::typed::question;
+use sheet::rows::Question;
+use sheet::sizes::{NODES, QUESTIONS};
+use view::typed::row;
 use view::values::lists_mode;
 use view::view::View;
 
-// The numbers of questions in a set; the one after the last stands for an empty set.
+// The questions of a set are below this number.
 const QUESTION_NUMBERS: usize = 16;
 
 // Whether the question is in the set.
@@ -28,9 +28,7 @@ pub fn is_chosen(set: QuestionSet, question: usize) -> bool
 
 // Applies the rules of a section's rows, the highest row first, so that a node comes before its operands.
 fn apply_section<V: View>(view: &V, marks: &mut Marks, section: usize)
-    requires fits { Fit (V.View.fits view.now) (V.View.rows view.now) }
-    requires whole { length marks.old.table ≡ places }
-    requires inside { section < 9 }
+    requires { section < 9 }
     ensures { Passed (V.View.rows view.now) (OfSection section) marks.old.table marks.new.table }
 {
     let count = view.count(section).unwrap_or(0);
@@ -43,8 +41,6 @@ fn apply_section<V: View>(view: &V, marks: &mut Marks, section: usize)
 
 // Applies the rules of all rows once, and tells whether that marked anything.
 fn pass<V: View>(view: &V, marks: &mut Marks) -> bool
-    requires fits { Fit (V.View.fits view.now) (V.View.rows view.now) }
-    requires whole { length marks.old.table ≡ places }
     ensures passed { Passed (V.View.rows view.now) EveryRow marks.old.table marks.new.table }
     ensures new { result ≡ true → unmarked_in marks.new.table < unmarked_in marks.old.table }
     ensures same { result ≡ false → marks.new.table ≡ marks.old.table }
@@ -58,8 +54,6 @@ fn pass<V: View>(view: &V, marks: &mut Marks) -> bool
 
 // Applies the rules until nothing is left to mark.
 fn close<V: View>(view: &V, marks: &mut Marks)
-    requires fits { Fit (V.View.fits view.now) (V.View.rows view.now) }
-    requires whole { length marks.old.table ≡ places }
     ensures { Settled (V.View.rows view.now) marks.old.table marks.new.table }
 {
     while pass(view, marks) {}
@@ -68,20 +62,14 @@ fn close<V: View>(view: &V, marks: &mut Marks)
 // Marks the nodes of the chosen questions, or tells why there is no cut: the set is empty, or the lowest chosen question
 // that is missing or blank.
 fn mark_questions<V: View>(view: &V, marks: &mut Marks, set: QuestionSet) -> Result<(), NoCut>
-    requires fits { Fit (V.View.fits view.now) (V.View.rows view.now) }
-    requires whole { length marks.old.table ≡ places }
     ensures { MatchResult result (λ _. Asked (V.View.rows view.now) set marks.old.table marks.new.table) (λ f. cut_fault (V.View.rows view.now) set ≡ Some f) }
 {
     if set == 0 {
-        return Err(NoCut {
-            question: QUESTION_NUMBERS,
-        });
+        return Err(NoCut::EmptySet);
     }
     for q in 0..QUESTION_NUMBERS {
         if is_chosen(set, q) {
-            let Some(x) = question(view, q) else {
-                return Err(NoCut { question: q });
-            };
+            let x: Question = row(view, q).ok_or(NoCut::NoQuestion(q))?;
             marks.mark(Item::Node(x.node as usize));
         }
     }
@@ -90,7 +78,6 @@ fn mark_questions<V: View>(view: &V, marks: &mut Marks, set: QuestionSet) -> Res
 
 // The kept things for a set of questions, and the nodes that remain; or why there is no cut.
 pub fn kept_things<V: View>(view: &V, set: QuestionSet) -> Result<Marks, NoCut>
-    requires { Fit (V.View.fits view.now) (V.View.rows view.now) }
     ensures { MatchResult result (KeepsFor (V.View.rows view.now) set) (λ f. cut_fault (V.View.rows view.now) set ≡ Some f) }
 {
     let mut marks = Marks::none();

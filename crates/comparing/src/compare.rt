@@ -6,7 +6,7 @@ ghost use Rattle.cutting.specs.Agreement.{Pile, SameAnswers, SameReply, Agree};
 ghost use Rattle.cutting.specs.Laws.{Alike};
 ghost use Rattle.running.specs.States.{start_state};
 
-use crate::same::{is_kept_step, is_same_answer, is_same_reply, tell_the_same};
+use crate::same::{Pair, is_kept_step};
 use cutting::kinds::RunCall;
 use rig::rig::Rig;
 
@@ -26,7 +26,7 @@ pub fn compare<P: Rig, W: Rig>(pile: &mut P, whole: &mut W, calls: &[RunCall]) -
     for call in calls {
         agreed &= is_same_turn(pile, whole, *call);
     }
-    let last = tell_the_same(pile, whole);
+    let last = Pair { pile, whole }.tell_the_same();
     agreed & last
 }
 
@@ -38,7 +38,7 @@ fn is_same_turn<P: Rig, W: Rig>(pile: &mut P, whole: &mut W, call: RunCall) -> b
     ensures pile_called { Called (P.Rig.fits pile.new) (P.Rig.rows pile.old) (P.Rig.rows pile.new) (P.Rig.means pile.old) (P.Rig.means pile.new) call }
     ensures whole_called { Called (W.Rig.fits whole.new) (W.Rig.rows whole.old) (W.Rig.rows whole.new) (W.Rig.means whole.old) (W.Rig.means whole.new) call }
 {
-    let told = tell_the_same(pile, whole);
+    let told = Pair { pile, whole }.tell_the_same();
     let replied = is_same_call(pile, whole, call);
     told & replied
 }
@@ -61,8 +61,8 @@ fn is_same_call<P: Rig, W: Rig>(pile: &mut P, whole: &mut W, call: RunCall) -> b
             let kept = is_kept_step(pile, step);
             let here = pile.step(step);
             let there = whole.step(step);
-            !kept || is_same_reply(here, there)
+            !kept || here == there
         }
-        RunCall::Answer(q) => is_same_answer(pile, whole, q),
+        RunCall::Answer(q) => Pair { pile, whole }.is_same_answer(q),
     }
 }

@@ -1,6 +1,6 @@
 -- The one-call cut: bytes read as a sheet, the sheet cut, and the cut written.
 use Rattle.std.specs.Prelude.{◌≡◌, ℕ, ◌<◌, ◌≤◌, List, ◌++◌, length, drop, Some, None, Ok, Err, Option, Result}
-use Rattle.cutting.specs.CutSheet.{cut_fault, IsCutFor, no_cut_number}
+use Rattle.cutting.specs.CutSheet.{cut_fault, IsCutFor, no_cut_number, question_told}
 use Rattle.reader.specs.declared.fault.ReadFault.TheVariants.{Refused, OutOfMemory}
 use Rattle.reader.specs.Reads.{fault_of}
 use Rattle.sheet.specs.Accept.{accept, verdict}
@@ -14,7 +14,7 @@ use Rattle.cut_bytes.specs.declared.fault.CutFault.TheVariants.{Reading, Cutting
 -- Want of memory is no refusal and has none.
 abbrev pub numbers_of : CutFault → Option (ℕ × ℕ × ℕ)
 numbers_of (Reading f) = fault_of f
-numbers_of (Cutting f) = Some (no_cut_number f, f.question, 0)
+numbers_of (Cutting f) = Some (no_cut_number f, question_told f, 0)
 numbers_of (Writing f) = Some (too_short_number f, f.needed, 0)
 
 -- The cut t of the sheet s for a set of questions was written to the front of a buffer with room for it: n is its

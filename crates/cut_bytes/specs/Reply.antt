@@ -1,7 +1,7 @@
 -- What the program writes for its input: a set of questions and a sheet.
 use Rattle.std.specs.Prelude.{◌≡◌, ℕ, List, ◌++◌, drop, Some, None, Ok, Err, codes, slice_index}
 use Rattle.cutting.specs.declared.kinds.NoCut.{NoCut}
-use Rattle.cutting.specs.CutSheet.{cut_fault, IsCutFor, no_cut_number}
+use Rattle.cutting.specs.CutSheet.{cut_fault, IsCutFor, no_cut_number, question_told}
 use Rattle.reader.specs.declared.fault.ReadFault.TheVariants.{Refused, OutOfMemory}
 use Rattle.refused.specs.Line.{refused_at}
 use Rattle.sheet.specs.declared.refusal.Refusal.{Refusal}
@@ -28,12 +28,12 @@ refusal_line n a b = refused_at n a b ++ codes "\n"
 abbrev pub LineOf : CutFault → List ℕ → Type 0
 LineOf (Reading (Refused f)) out = out ≡ refusal_line (number_of f.reason) f.section f.row
 LineOf (Reading OutOfMemory) out = ⊥
-LineOf (Cutting f) out = out ≡ refusal_line (no_cut_number f) f.question 0
+LineOf (Cutting f) out = out ≡ refusal_line (no_cut_number f) (question_told f) 0
 LineOf (Writing f) out = out ≡ refusal_line (too_short_number f) f.needed 0
 
 -- What is written: the bytes of the cut; or that there is no such cut, with the question; or that the bytes are no sheet,
 -- with section and row.
 pub data ReplyTo (input out : List ℕ) : Type 0 where
   the_cut : (s t : Sheet) → accept (sheet_in input) ≡ Ok s → cut_fault s (set_in input) ≡ None → IsCutFor s (set_in input) t → out ≡ bytes_of t → ReplyTo input out
-  no_such_cut : (s : Sheet) (f : NoCut) → accept (sheet_in input) ≡ Ok s → cut_fault s (set_in input) ≡ Some f → out ≡ refusal_line (no_cut_number f) f.question 0 → ReplyTo input out
+  no_such_cut : (s : Sheet) (f : NoCut) → accept (sheet_in input) ≡ Ok s → cut_fault s (set_in input) ≡ Some f → out ≡ refusal_line (no_cut_number f) (question_told f) 0 → ReplyTo input out
   no_sheet : (f : Refusal) → accept (sheet_in input) ≡ Err f → out ≡ refusal_line (number_of f.reason) f.section f.row → ReplyTo input out

@@ -33,7 +33,7 @@ fn line_of_fault(heap: Global, fault: CutFault) -> Result<Vec<u8>, AllocError>
             line(heap, refusal_number(f.reason), f.section, f.row)
         }
         CutFault::Reading(ReadFault::OutOfMemory) => Err(AllocError),
-        CutFault::Cutting(f) => line(heap, 14, f.question, 0),
+        CutFault::Cutting(f) => line(heap, 14, f.question(), 0),
         CutFault::Writing(f) => line(heap, 15, f.needed, 0),
     }
 }

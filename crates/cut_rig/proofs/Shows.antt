@@ -1,5 +1,5 @@
 -- What the tables of a cut say of the rows and the state below.
-use Rattle.std.proofs.Common.{◌≡◌, ℕ, ◌+◌, ◌*◌, ◌<◌, ◌≤◌, Bool, true, false, cond, ◌&&◌, ltb, List, [], ◌∷◌, get_or, pos, is_some, Some, None, Ok, Err, Option, Result, unwrap_or, sym, refl, ap, ◌∙◌, ⊎_elim, arith}
+use Rattle.std.proofs.Common.{◌≡◌, ℕ, ◌<◌, ◌≤◌, Bool, true, false, cond, ◌&&◌, ltb, List, [], ◌∷◌, get_or, pos, is_some, Some, None, Ok, Err, Option, Result, unwrap_or, sym, refl, ap, ◌∙◌, ⊎_elim, arith}
 use Rattle.std.proofs.lemmas.Bool.{false≢true, cases_lt, ne_eqb, lt-ltb, le-ltb}
 use Rattle.std.proofs.lemmas.List.{get_or_past}
 use Rattle.std.specs.Option.{option_map}
@@ -37,8 +37,8 @@ module _ (s : Sheet) (t : Tables) (a : accepted s ≡ true) (f : TablesFit s t) 
   -- a row that has a place in the table
   pub stays_here : (section i : ℕ) → section < 9 → i < 128 → stays_in t section i ≡ row_stays (kept_in t) (chosen_by t) s section i
   stays_here section i l b =
-      ap (λ x. cond (x && ltb i 128) (get_or t.rows (128 * section + i) false) false) (lt-ltb section 9 l)
-      ∙ ap (λ x. cond x (get_or t.rows (128 * section + i) false) false) (lt-ltb i 128 b)
+      ap (λ x. cond (x && ltb i 128) (get_or (get_or t.rows section []) i false) false) (lt-ltb section 9 l)
+      ∙ ap (λ x. cond x (get_or (get_or t.rows section []) i false) false) (lt-ltb i 128 b)
       ∙ f.rows section i l b
 
   -- any row of a section whose rows stay by a test
@@ -47,8 +47,8 @@ module _ (s : Sheet) (t : Tables) (a : accepted s ≡ true) (f : TablesFit s t) 
       ⊎_elim
       (λ (b : i < 128). stays_here section i l b ∙ h i)
       (λ (b : 128 ≤ i).
-      ap (λ x. cond (x && ltb i 128) (get_or t.rows (128 * section + i) false) false) (lt-ltb section 9 l)
-      ∙ ap (λ x. cond x (get_or t.rows (128 * section + i) false) false) (le-ltb i 128 b)
+      ap (λ x. cond (x && ltb i 128) (get_or (get_or t.rows section []) i false) false) (lt-ltb section 9 l)
+      ∙ ap (λ x. cond x (get_or (get_or t.rows section []) i false) false) (le-ltb i 128 b)
       ∙ sym (ap (λ o. is o (test i)) (there_past entry (rows s section) i (omega (arith, (sized s section a l).few)))))
       (cases_lt i 128)
 

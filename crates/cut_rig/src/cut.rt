@@ -9,6 +9,7 @@ ghost use Rattle.cut_rig.specs.Cuts.{rows_above, means_above, FitsAbove, MadeAbo
 ghost use Rattle.cutting.specs.Laws.{SmallestIsUnique, CutIsUnique, CutsAreAccepted};
 ghost use Rattle.cutting.proofs.AcceptedCuts.{cuts_are_accepted};
 ghost use Rattle.cutting.proofs.StatesAgree.{shown_state_of};
+ghost use Rattle.std.proofs.Props.{props};
 
 use crate::stays::byte_of_blank;
 use crate::tables::Tables;
@@ -16,6 +17,7 @@ use cutting::kinds::{NoCut, QuestionSet};
 use rig::rig::Rig;
 use rig::seen::Seen;
 use running::kinds::{Step, StepRefusal};
+use sheet::sizes::{COMPONENTS, ELEMENTS, TRANSITIONS};
 use view::view::View;
 
 // A rig cut to a set of questions. It holds the rig below by value.
@@ -70,7 +72,7 @@ impl<R> Cut<R> {
     fn find_transition(&self, t: usize) -> Result<(), StepRefusal>
         ensures { result ≡ replied (must (stays_in self.now.tables 6 t) (NoTransition t)) }
     {
-        if self.tables.row_stays(6, t) {
+        if self.tables.row_stays(TRANSITIONS, t) {
             Ok(())
         } else {
             Err(StepRefusal::NoTransition(t))
@@ -84,6 +86,8 @@ impl<R: Rig> Rig for Cut<R> {
     ghost means = { means_above R.Rig.means };
 
     ghost fits = { FitsAbove R.Rig.rows R.Rig.fits };
+
+    ghost fits_is_a_fact = { λ x. Prim.hlevel (props, R.Rig.fits_is_a_fact) };
 
     ghost sound = { λ x f.
         let s = R.Rig.rows x.below in
@@ -99,10 +103,8 @@ impl<R: Rig> Rig for Cut<R> {
     }
 
     fn byte(&self, section: usize, row: usize, place: usize) -> Option<u8> {
-        let Some(byte) = self.below.byte(section, row, place) else {
-            return None;
-        };
-        if section == 0 {
+        let byte = self.below.byte(section, row, place)?;
+        if section == COMPONENTS {
             let start = if place == 1 {
                 self.tables.shown_mode(row as u8, byte)
             } else {
@@ -113,7 +115,7 @@ impl<R: Rig> Rig for Cut<R> {
         if !self.tables.row_stays(section, row) {
             return Some(byte_of_blank(section, place));
         }
-        if section == 6 && place == 2 {
+        if section == TRANSITIONS && place == 2 {
             let component = self.below.byte(section, row, 0).unwrap_or(0);
             return Some(self.tables.shown_mode(component, byte));
         }
@@ -121,14 +123,12 @@ impl<R: Rig> Rig for Cut<R> {
     }
 
     fn mode(&self, component: usize) -> Option<u8> {
-        let Some(mode) = self.below.mode(component) else {
-            return None;
-        };
+        let mode = self.below.mode(component)?;
         Some(self.tables.shown_mode(component as u8, mode))
     }
 
     fn value(&self, element: usize) -> Option<i32> {
-        if !self.tables.row_stays(1, element) {
+        if !self.tables.row_stays(ELEMENTS, element) {
             return None;
         }
         self.below.value(element)

@@ -1,96 +1,99 @@
 // Which rows stay.
 
-ghost use Rattle.std.specs.Prelude.{◌≡◌, ℕ, ◌+◌, ◌*◌, ◌<◌, Bool, true, false, Some, MatchResult, slice_index_or};
+ghost use Rattle.std.specs.Prelude.{◌≡◌, ℕ, ◌<◌, false, [], Some, MatchResult, slice_index_or};
 ghost use Rattle.closing.specs.Marks.{kept_of, KeepsFor};
 ghost use Rattle.cut_rig.specs.Tables.{kept_in, stays_in, TablesFit};
 ghost use Rattle.cutting.specs.CutCells.{row_stays, blank_byte};
 ghost use Rattle.cutting.specs.CutSheet.{keeps_events, keeps_setting, shown_mode, cut_fault};
 ghost use Rattle.cutting.specs.Kept.{keeps_from, chosen_in};
 ghost use Rattle.sheet.specs.Lookup.{is, transition_at, connection_at, setting_at};
-ghost use Rattle.view.specs.Fit.{Fit};
 
-use crate::tables::{PLACES, ROWS, Tables};
+use crate::tables::{ROWS, Tables};
 use closing::close::kept_things;
 use closing::marks::Marks;
 use cutting::kinds::{NoCut, QuestionSet, Thing};
-use sheet::sizes::SECTIONS;
-use view::typed::{connection, element, event, flow, node, question, setting, transition};
+use sheet::rows::{Connection, Element, Event, Flow, Node, Question, Setting, Transition};
+use sheet::sizes::{
+    CONNECTIONS, ELEMENTS, EVENTS, FLOWS, NODES, QUESTIONS, SECTIONS, SETTINGS, TRANSITIONS,
+};
+use view::typed::row;
 use view::values::lists_mode;
 use view::view::View;
 
 // Whether transition t is there and its from mode is kept.
 fn transition_stays<V: View>(view: &V, marks: &Marks, t: usize) -> bool
-    requires { Fit (V.View.fits view.now) (V.View.rows view.now) }
     ensures { result ≡ is (transition_at (V.View.rows view.now) t) (keeps_from (kept_of marks.now)) }
 {
-    let Some(x) = transition(view, t) else {
-        return false;
-    };
-    marks.keeps(Thing::Mode(x.component, x.from))
+    row(view, t).is_some_and(|x: Transition| marks.keeps(Thing::Mode(x.component, x.from)))
 }
 
 // Whether connection i is there and both its events are kept.
 fn connection_stays<V: View>(view: &V, marks: &Marks, i: usize) -> bool
-    requires { Fit (V.View.fits view.now) (V.View.rows view.now) }
     ensures { result ≡ is (connection_at (V.View.rows view.now) i) (keeps_events (kept_of marks.now)) }
 {
-    let Some(x) = connection(view, i) else {
-        return false;
-    };
-    marks.keeps(Thing::Event(x.out_event)) && marks.keeps(Thing::Event(x.in_event))
+    row(view, i).is_some_and(|x: Connection| {
+        marks.keeps(Thing::Event(x.out_event)) && marks.keeps(Thing::Event(x.in_event))
+    })
 }
 
 // Whether setting i is there, its transition stays and its element is kept.
 fn setting_stays<V: View>(view: &V, marks: &Marks, i: usize) -> bool
-    requires { Fit (V.View.fits view.now) (V.View.rows view.now) }
     ensures { result ≡ is (setting_at (V.View.rows view.now) i) (keeps_setting (kept_of marks.now) (V.View.rows view.now)) }
 {
-    let Some(x) = setting(view, i) else {
-        return false;
-    };
-    transition_stays(view, marks, x.transition as usize) && marks.keeps(Thing::Element(x.element))
+    row(view, i).is_some_and(|x: Setting| {
+        transition_stays(view, marks, usize::from(x.transition))
+            && marks.keeps(Thing::Element(x.element))
+    })
 }
 
 // Whether a row of a section other than the components stays.
-fn stays<V: View>(view: &V, marks: &Marks, set: QuestionSet, section: usize, row: u8) -> bool
-    requires fit { Fit (V.View.fits view.now) (V.View.rows view.now) }
-    requires keeps { KeepsFor (V.View.rows view.now) set marks.now }
-    ensures { result ≡ row_stays (kept_of marks.now) (chosen_in set) (V.View.rows view.now) section row }
+fn stays<V: View>(view: &V, marks: &Marks, set: QuestionSet, section: usize, number: u8) -> bool
+    requires { KeepsFor (V.View.rows view.now) set marks.now }
+    ensures { result ≡ row_stays (kept_of marks.now) (chosen_in set) (V.View.rows view.now) section number }
 {
-    let i = row as usize;
+    let i = usize::from(number);
     match section {
-        1 => element(view, i).is_some() && marks.keeps(Thing::Element(row)),
-        2 => event(view, i).is_some() && marks.keeps(Thing::Event(row)),
-        3 => node(view, i).is_some() && marks.keeps_node(i),
-        4 => match flow(view, i) {
-            Some(x) => marks.keeps(Thing::Element(x.port)),
-            None => false,
-        },
-        5 => connection_stays(view, marks, i),
-        6 => transition_stays(view, marks, i),
-        7 => setting_stays(view, marks, i),
-        8 => question(view, i).is_some() && lists_mode(set, row),
+        ELEMENTS => {
+            row::<_, Element, _>(view, i).is_some() && marks.keeps(Thing::Element(number))
+        }
+        EVENTS => row::<_, Event, _>(view, i).is_some() && marks.keeps(Thing::Event(number)),
+        NODES => row::<_, Node, _>(view, i).is_some() && marks.keeps_node(i),
+        FLOWS => row(view, i).is_some_and(|x: Flow| marks.keeps(Thing::Element(x.port))),
+        CONNECTIONS => connection_stays(view, marks, i),
+        TRANSITIONS => transition_stays(view, marks, i),
+        SETTINGS => setting_stays(view, marks, i),
+        QUESTIONS => row::<_, Question, _>(view, i).is_some() && lists_mode(set, number),
         _ => false,
     }
 }
 
-// For each row of each section whether it stays.
-fn staying_rows<V: View>(view: &V, marks: &Marks, set: QuestionSet) -> [bool; PLACES]
-    requires fit { Fit (V.View.fits view.now) (V.View.rows view.now) }
-    requires keeps { KeepsFor (V.View.rows view.now) set marks.now }
-    ensures { (section i : ℕ) → section < 9 → i < 128 → slice_index_or result (128 * section + i) false ≡ row_stays (kept_of marks.now) (chosen_in set) (V.View.rows view.now) section i }
+// For each row of a section whether it stays.
+fn staying_of<V: View>(view: &V, marks: &Marks, set: QuestionSet, section: usize) -> [bool; ROWS]
+    requires { KeepsFor (V.View.rows view.now) set marks.now }
+    ensures { (i : ℕ) → i < 128 → slice_index_or result i false ≡ row_stays (kept_of marks.now) (chosen_in set) (V.View.rows view.now) section i }
 {
-    let mut rows = [false; PLACES];
-    for p in 0..PLACES {
-        rows[p] = stays(view, marks, set, p / ROWS, (p % ROWS) as u8);
+    let mut rows = [false; ROWS];
+    for (row, stay) in rows.iter_mut().enumerate() {
+        *stay = stays(view, marks, set, section, row as u8);
     }
     rows
+}
+
+// For each row of each section whether it stays.
+fn staying_rows<V: View>(view: &V, marks: &Marks, set: QuestionSet) -> [[bool; ROWS]; SECTIONS]
+    requires { KeepsFor (V.View.rows view.now) set marks.now }
+    ensures { (section i : ℕ) → section < 9 → i < 128 → slice_index_or (slice_index_or result section []) i false ≡ row_stays (kept_of marks.now) (chosen_in set) (V.View.rows view.now) section i }
+{
+    let mut sections = [[false; ROWS]; SECTIONS];
+    for (section, rows) in sections.iter_mut().enumerate() {
+        *rows = staying_of(view, marks, set, section);
+    }
+    sections
 }
 
 impl Tables {
     // The tables of a cut for a set of questions, or why there is no such cut.
     pub(crate) fn new<V: View>(view: &V, set: QuestionSet) -> Result<Tables, NoCut>
-        requires { Fit (V.View.fits view.now) (V.View.rows view.now) }
         ensures { MatchResult result (λ t. TablesFit (V.View.rows view.now) t × (t.set ≡ set)) (λ f. cut_fault (V.View.rows view.now) set ≡ Some f) }
     {
         let marks = kept_things(view, set)?;
@@ -102,7 +105,7 @@ impl Tables {
     pub(crate) fn row_stays(&self, section: usize, row: usize) -> bool
         ensures { result ≡ stays_in self.now section row }
     {
-        section < SECTIONS && row < ROWS && self.rows[ROWS * section + row]
+        self.rows.get(section).and_then(|rows| rows.get(row)) == Some(&true)
     }
 
     // A mode of a component as the cut shows it.
@@ -121,7 +124,7 @@ impl Tables {
 pub(crate) fn byte_of_blank(section: usize, place: usize) -> u8
     ensures { result ≡ blank_byte section place }
 {
-    if place == 0 && (section == 7 || section == 8) {
+    if place == 0 && (section == SETTINGS || section == QUESTIONS) {
         255
     } else {
         0

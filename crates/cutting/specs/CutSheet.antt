@@ -11,6 +11,7 @@ use Rattle.sheet.specs.Tries.{Try, must, first_fault, each}
 use Rattle.sheet.specs.Typed.{at, element_entry, event_entry, node_entry, flow_entry, connection_entry, transition_entry, setting_entry, question_entry}
 use Rattle.running.specs.States.{State}
 use Rattle.cutting.specs.declared.kinds.NoCut.{NoCut}
+use Rattle.cutting.specs.declared.kinds.NoCut.TheVariants.{EmptySet, NoQuestion}
 use Rattle.cutting.specs.declared.kinds.Thing.TheVariants.{Element as KeptElement, Event as KeptEvent, Mode as KeptMode}
 use Rattle.cutting.specs.Kept.{Kept, Chosen, chosen_in, keeps_from, Smallest}
 use Rattle.cutting.specs.Numbered.{numbered, some_passes}
@@ -111,16 +112,18 @@ shown k w = record { modes = numbered (shown_mode k) w.modes; held = numbered (s
 abbrev pub no_cut_number : NoCut → ℕ
 no_cut_number f = 14
 
-abbrev pub no_cut : ℕ → NoCut
-no_cut q = record { question = q }
-
--- the most questions, and what is named for an empty set
+-- the most questions, and what is told of an empty set
 abbrev pub question_places : ℕ
 question_places = 16
 
+-- the question that a refusal tells
+abbrev pub question_told : NoCut → ℕ
+question_told EmptySet = question_places
+question_told (NoQuestion q) = q
+
 -- A set is not empty, and each chosen question is there, the lowest first.
 abbrev pub cut_tries : Sheet → ℕ → List (Try NoCut)
-cut_tries s set = must (not (set == 0)) (no_cut question_places) ∷ each question_places (λ q. must (not (chosen_in set q) || is_some (question_at s q)) (no_cut q) ∷ [])
+cut_tries s set = must (not (set == 0)) EmptySet ∷ each question_places (λ q. must (not (chosen_in set q) || is_some (question_at s q)) (NoQuestion q) ∷ [])
 
 -- why there is no cut of the sheet for a set of questions, if there is none
 abbrev pub cut_fault : Sheet → ℕ → Try NoCut

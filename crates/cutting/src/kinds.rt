@@ -1,5 +1,8 @@
 // What a cut keeps and refuses, and the calls of a run.
 
+ghost use Rattle.std.specs.Prelude.{◌≡◌};
+ghost use Rattle.cutting.specs.CutSheet.{question_told};
+
 use running::kinds::Step;
 
 // A thing that a cut keeps or drops: an element or an event by its row number, or a mode by its component and number.
@@ -13,10 +16,25 @@ pub enum Thing {
 // A set of questions: question q is bit q.
 pub type QuestionSet = u16;
 
-// No cut, 14: the chosen question is missing or blank. For an empty set the question is 16.
+// No cut, 14.
 #[derive(Clone, Copy, PartialEq, Eq, Debug)]
-pub struct NoCut {
-    pub question: usize,
+pub enum NoCut {
+    // No question is chosen.
+    EmptySet,
+    // The chosen question is missing or blank.
+    NoQuestion(usize),
+}
+
+impl NoCut {
+    // The question that is told; 16 for an empty set.
+    pub fn question(self) -> usize
+        ensures { result ≡ question_told self }
+    {
+        match self {
+            NoCut::EmptySet => 16,
+            NoCut::NoQuestion(q) => q,
+        }
+    }
 }
 
 // A call of a run: back to the start, a step, or the answer to a question.

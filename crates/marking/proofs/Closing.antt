@@ -18,7 +18,7 @@ use Rattle.cutting.specs.CutSheet.{is_used}
 use Rattle.cutting.specs.Kept.{Kept, Chosen, Closed, keeps_from, touches}
 use Rattle.marking.specs.declared.kinds.Item.{Item}
 use Rattle.marking.specs.declared.kinds.Item.TheVariants.{Thing as ThatThing, Node as ThatNode}
-use Rattle.marking.specs.Rules.{event_items, flow_rule, connection_rule, transition_rule, setting_rule, setting_rule_at, flow_rule_at, Effect, first, second, third, listed, RulesHold}
+use Rattle.marking.specs.Rules.{event_items, flow_rule, connection_rule, transition_rule, setting_rule, setting_rule_at, flow_rule_at, Effect, named, listed, RulesHold}
 use Rattle.marking.proofs.Resting.{rests_element, rests_mode, rests_node}
 use Rattle.marking.proofs.Used.{Names, in_flow, in_guard, in_setting, in_question, used_from}
 
@@ -50,8 +50,8 @@ module _ (s : Sheet) (a : accepted s ≡ true) (chosen : Chosen) (j : Item → B
       let event = is (event_items y.event) j in
       rules.by_rows transitions t (transition_rule y) (ap (option_map transition_rule) e)
       (⊎_elim
-      (λ (u : touches k y ≡ true). ⊎_elim (λ (v : from ≡ true). or_left from (to || event) v) (λ (v : to ≡ true). or_right from (to || event) (or_left to event v)) (or_cases from to u))
-      (λ (u : event ≡ true). or_right from (to || event) (or_right to event u))
+      (λ (u : touches k y ≡ true). ⊎_elim (λ (v : from ≡ true). or_left from (to || (event || false)) v) (λ (v : to ≡ true). or_right from (to || (event || false)) (or_left to (event || false) v)) (or_cases from to u))
+      (λ (u : event ≡ true). or_right from (to || (event || false)) (or_right to (event || false) (or_left event false u)))
       h)
 
   by_setting : (i : ℕ) (x : Setting) (y : Transition) → setting_at s i ≡ Some x → transition_at s x.transition ≡ Some y → k (KeptElement x.element) ≡ true → (z : Item) → Effect (setting_rule x y) z → j z ≡ true
@@ -68,9 +68,9 @@ module _ (s : Sheet) (a : accepted s ≡ true) (chosen : Chosen) (j : Item → B
 
   -- a node that a remaining row names is in the set
   names_in : (r : ℕ) → Names k chosen s r → j (ThatNode r) ≡ true
-  names_in r (in_flow i x e h same) = let p = port_there i x e in ap (λ n. j (ThatNode n)) (sym same) ∙ by_flow i x p.0 e p.1 h (ThatNode x.node) (first refl)
-  names_in r (in_guard t y e h same) = ap (λ n. j (ThatNode n)) (sym same) ∙ by_transition t y e (inl (or_left (keeps_from k y) (k (KeptMode y.component y.to)) h)) (ThatNode y.guard) (third refl)
-  names_in r (in_setting i x y e q h d same) = ap (λ n. j (ThatNode n)) (sym same) ∙ by_setting i x y e q d (ThatNode x.node) (second refl)
+  names_in r (in_flow i x e h same) = let p = port_there i x e in ap (λ n. j (ThatNode n)) (sym same) ∙ by_flow i x p.0 e p.1 h (ThatNode x.node) (named 0 refl)
+  names_in r (in_guard t y e h same) = ap (λ n. j (ThatNode n)) (sym same) ∙ by_transition t y e (inl (or_left (keeps_from k y) (k (KeptMode y.component y.to)) h)) (ThatNode y.guard) (named 2 refl)
+  names_in r (in_setting i x y e q h d same) = ap (λ n. j (ThatNode n)) (sym same) ∙ by_setting i x y e q d (ThatNode x.node) (named 1 refl)
   names_in r (in_question q x e h same) = ap (λ n. j (ThatNode n)) (sym same) ∙ rules.by_questions q x h e
 
   -- The nodes that remain with the things of the set are in it.
@@ -84,15 +84,15 @@ module _ (s : Sheet) (a : accepted s ≡ true) (chosen : Chosen) (j : Item → B
         no_mode_0 = none;
         question_elements = λ q e x h l r. rests_element s a chosen j rules x.node e (rules.by_questions q x h l) r;
         question_modes = λ q c m x h l r. rests_mode s a chosen j rules x.node c m (rules.by_questions q x h l) r;
-        setting_from = λ i x y e q h. by_setting i x y e q h (ThatThing (KeptMode y.component y.from)) (first refl);
-        event_from = λ t v y e q h. by_transition t y e (inr (ap (λ o. is (event_items o) j) q ∙ h)) (ThatThing (KeptMode y.component y.from)) (first refl);
-        touched_from = λ t y e h. by_transition t y e (inl h) (ThatThing (KeptMode y.component y.from)) (first refl);
-        touched_event = λ t v y e h q. by_transition t y e (inl h) (ThatThing (KeptEvent v)) (second (ap event_items q));
-        touched_guard = λ t e y l h r. rests_element s a chosen j rules y.guard e (by_transition t y l (inl h) (ThatNode y.guard) (third refl)) r;
-        touched_setting = λ i e x y l q h d r. rests_element s a chosen j rules x.node e (by_setting i x y l q d (ThatNode x.node) (second refl)) r;
-        flow_elements = λ f e x l h r. let p = port_there f x l in rests_element s a chosen j rules x.node e (by_flow f x p.0 l p.1 h (ThatNode x.node) (first refl)) r;
-        flow_modes = λ f m x p l q h i. by_flow f x p l q h (ThatThing (KeptMode p.component m)) (listed i);
-        connection_in = λ i x e h. by_connection i x e (or_left (k (KeptEvent x.out_event)) (k (KeptEvent x.in_event)) h) (ThatThing (KeptEvent x.in_event)) (second refl);
-        connection_out = λ i x e h. by_connection i x e (or_right (k (KeptEvent x.out_event)) (k (KeptEvent x.in_event)) h) (ThatThing (KeptEvent x.out_event)) (first refl);
-        connection_modes = λ i m x e h l. by_connection i x e h (ThatThing (KeptMode x.owner m)) (listed l);
+        setting_from = λ i x y e q h. by_setting i x y e q h (ThatThing (KeptMode y.component y.from)) (named 0 refl);
+        event_from = λ t v y e q h. by_transition t y e (inr (ap (λ o. is (event_items o) j) q ∙ h)) (ThatThing (KeptMode y.component y.from)) (named 0 refl);
+        touched_from = λ t y e h. by_transition t y e (inl h) (ThatThing (KeptMode y.component y.from)) (named 0 refl);
+        touched_event = λ t v y e h q. by_transition t y e (inl h) (ThatThing (KeptEvent v)) (named 1 (ap event_items q));
+        touched_guard = λ t e y l h r. rests_element s a chosen j rules y.guard e (by_transition t y l (inl h) (ThatNode y.guard) (named 2 refl)) r;
+        touched_setting = λ i e x y l q h d r. rests_element s a chosen j rules x.node e (by_setting i x y l q d (ThatNode x.node) (named 1 refl)) r;
+        flow_elements = λ f e x l h r. let p = port_there f x l in rests_element s a chosen j rules x.node e (by_flow f x p.0 l p.1 h (ThatNode x.node) (named 0 refl)) r;
+        flow_modes = λ f m x p l q h i. by_flow f x p l q h (ThatThing (KeptMode p.component m)) (listed refl i);
+        connection_in = λ i x e h. by_connection i x e (or_left (k (KeptEvent x.out_event)) (k (KeptEvent x.in_event)) h) (ThatThing (KeptEvent x.in_event)) (named 1 refl);
+        connection_out = λ i x e h. by_connection i x e (or_right (k (KeptEvent x.out_event)) (k (KeptEvent x.in_event)) h) (ThatThing (KeptEvent x.out_event)) (named 0 refl);
+        connection_modes = λ i m x e h l. by_connection i x e h (ThatThing (KeptMode x.owner m)) (listed refl l);
       }

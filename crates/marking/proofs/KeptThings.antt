@@ -14,7 +14,7 @@ use Rattle.marking.specs.Passes.{Asked, Settled}
 use Rattle.marking.specs.Rules.{RulesHold}
 use Rattle.marking.proofs.Closing.{things_closed, remaining_in}
 use Rattle.marking.proofs.Remaining.{with_nodes, closed_holds}
-use Rattle.marking.proofs.Tables.{no_mode_0}
+use Rattle.marking.proofs.Tables.{no_mode_0, stays_marked}
 
 same_truth : (b c : Bool) → (b ≡ true → c ≡ true) → (c ≡ true → b ≡ true) → b ≡ c
 same_truth true c to from = sym (to refl)
@@ -26,7 +26,7 @@ module _ (s : Sheet) (a : accepted s ≡ true) (chosen : Chosen) (table : List B
   kept x = marked table (ThatThing x)
 
   all_closed : Closed s chosen kept
-  all_closed = things_closed s a chosen (marked table) rules (no_mode_0 table long)
+  all_closed = things_closed s a chosen (marked table) rules (no_mode_0 table)
 
   things_smallest : Smallest s chosen kept
   things_smallest = record { closed = all_closed; least = λ k closed x h. least (with_nodes k chosen s) (closed_holds s a chosen k closed) (ThatThing x) h }
@@ -43,7 +43,7 @@ module _ (s : Sheet) (a : accepted s ≡ true) (set : ℕ) (none asked settled :
   rules =
       record {
         by_rows = by_rules.by_rows;
-        by_questions = λ q x h e. (by_rules.needed (chosen_in set)).grows _ (by_questions.by_questions q x h e);
+        by_questions = λ q x h e. stays_marked asked settled (by_rules.needed (chosen_in set)).grows (ThatNode x.node) (by_questions.by_questions q x h e);
       }
 
   least : (j : Item → Bool) → RulesHold s (chosen_in set) j → MarksWithin settled j

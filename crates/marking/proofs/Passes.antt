@@ -1,6 +1,7 @@
 -- The rule of a row applied, and one pass after another.
-use Rattle.std.proofs.Common.{◌≡◌, ℕ, zero, suc, ◌<◌, ◌≤◌, Bool, true, false, ◌||◌, ◌⊎◌, List, length, get_or, Some, None, Option, sym, refl, ap, ◌∙◌, inl, inr, ⊎_elim, arith}
+use Rattle.std.proofs.Common.{◌≡◌, ℕ, zero, suc, ◌<◌, ◌≤◌, Bool, true, false, ◌⊎◌, List, [], ◌∷◌, length, get_or, Some, None, Option, sym, refl, ap, ◌∙◌, inl, inr, ⊎_elim, arith}
 use Rattle.std.proofs.lemmas.Bool.{false≢true, both_ways, or_cases, or_left, or_right, cases_lt, cases_Bool, cond-true, cond-false}
+use Rattle.std.specs.List.{list_any}
 use Rattle.sheet.specs.Lookup.{is}
 use Rattle.sheet.specs.Sections.{Sheet}
 use Rattle.sheet.proofs.Firsts.{no_pass}
@@ -9,11 +10,12 @@ use Rattle.cutting.specs.declared.kinds.Thing.TheVariants.{Mode as KeptMode}
 use Rattle.cutting.specs.Kept.{Chosen}
 use Rattle.marking.specs.declared.kinds.Item.{Item}
 use Rattle.marking.specs.declared.kinds.Item.TheVariants.{Thing as ThatThing}
+use Rattle.marking.specs.declared.kinds.OwnedModes.{OwnedModes}
 use Rattle.marking.specs.declared.kinds.Rule.{Rule}
 use Rattle.marking.specs.Items.{places, marked, with_mark, Placed, MarksWithin}
 use Rattle.marking.specs.Passes.{Needed, Passed}
-use Rattle.marking.specs.Rules.{caused, Effect, first, second, third, listed, Holds, RulesHold, rule_at, with_mark_of, with_modes, with_items, applied}
-use Rattle.marking.proofs.Tables.{mark_placed, mark_grows, mark_long, mark_only, placed_mode}
+use Rattle.marking.specs.Rules.{caused, Effect, named, listed, Holds, RulesHold, rule_at, with_mark_of, with_modes, with_items, with_listed, applied}
+use Rattle.marking.proofs.Tables.{mark_placed, mark_grows, mark_long, mark_only, stays_marked, placed_mode}
 
 -- From a to b the items of E were marked, as far as they have a place, and no other.
 record Adds (E : Item → Type 0) (a b : List Bool) : Type 0 where
@@ -31,7 +33,7 @@ adds_join E F a b c p q =
       long = q.long ∙ p.long;
       grows = λ n h. q.grows n (p.grows n h);
       only = λ j e w. q.only j (λ x f. e x (inr f)) (p.only j (λ x f. e x (inl f)) w);
-      has = λ x e l. ⊎_elim (λ (e : E x). q.grows _ (p.has x e l)) (λ (f : F x). q.has x f l) e;
+      has = λ x e l. ⊎_elim (λ (e : E x). stays_marked b c q.grows x (p.has x e l)) (λ (f : F x). q.has x f l) e;
     }
 
 -- the same items, said in another way
@@ -47,9 +49,9 @@ adds_as E F a b to from p =
 adds_mark : (a : List Bool) → length a ≡ places → (x : Item) → Adds (λ y. x ≡ y) a (with_mark a x)
 adds_mark a long x =
     record {
-      long = mark_long a long x;
-      grows = mark_grows a long x;
-      only = λ j e w. mark_only a long x j (e x refl) w;
+      long = mark_long a x;
+      grows = mark_grows a x;
+      only = λ j e w. mark_only a x j (e x refl) w;
       has = λ y e l. let here : Placed x = rw e l in ap (marked (with_mark a x)) (sym e) ∙ mark_placed a long x here;
     }
 
@@ -103,53 +105,74 @@ module _ (a : List Bool) (long : length a ≡ places) (c set : ℕ) where
 
 -- ---- the effects of a rule
 
+-- the item is one of a list
+abbrev Among : List (Option Item) → Item → Type 0
+Among os x = (i : ℕ) × (get_or os i None ≡ Some x)
+
+first_or_later : (o : Option Item) (os : List (Option Item)) (x : Item) (i : ℕ) → get_or (o ∷ os) i None ≡ Some x → (o ≡ Some x) ⊎ Among os x
+first_or_later o os x zero e = inl e
+first_or_later o os x (suc i) e = inr (i, e)
+
+adds_items : (os : List (Option Item)) (a : List Bool) → length a ≡ places → Adds (Among os) a (with_items a os)
+adds_items [] a long = adds_none a (Among []) (λ x p. no_pass x (sym p.1))
+adds_items (o ∷ os) a long =
+    let t = with_mark_of a o in
+    let p = adds_mark_of a long o in
+    let q = adds_items os t (p.long ∙ long) in
+    adds_as (λ x. (o ≡ Some x) ⊎ Among os x) (Among (o ∷ os)) a (with_items t os)
+    (λ x e. ⊎_elim (λ (e : o ≡ Some x). (0, e)) (λ (e : Among os x). (suc e.0, e.1)) e)
+    (λ x p l. first_or_later o os x p.0 p.1)
+    (adds_join (λ x. o ≡ Some x) (Among os) a t (with_items t os) p q)
+
+-- the modes that a rule lists
+abbrev Owned : Option OwnedModes → Item → Type 0
+Owned None x = ⊥
+Owned (Some o) x = Listed o.component o.modes 16 x
+
+adds_listed : (o : Option OwnedModes) (a : List Bool) → length a ≡ places → Adds (Owned o) a (with_listed a o)
+adds_listed None a long = adds_none a (Owned None) (λ x p. p)
+adds_listed (Some o) a long = adds_modes a long o.component o.modes 16
+
 module _ (a : List Bool) (long : length a ≡ places) (r : Rule) where
   abbrev All : Item → Type 0
-  All x = (((r.effects.first ≡ Some x) ⊎ (r.effects.second ≡ Some x)) ⊎ (r.effects.third ≡ Some x)) ⊎ Listed r.component r.modes 16 x
+  All x = Among r.effects x ⊎ Owned r.modes x
+
+  owned_effect : (o : Option OwnedModes) (x : Item) → r.modes ≡ o → Owned o x → Effect r x
+  owned_effect None x e p = absurd p
+  owned_effect (Some o) x e p = rw p.3 (listed {o = o} e p.2)
 
   all_effects : (x : Item) → All x → Effect r x
-  all_effects x e =
-      ⊎_elim
-      (⊎_elim (⊎_elim (λ (e : r.effects.first ≡ Some x). first e) (λ (e : r.effects.second ≡ Some x). second e)) (λ (e : r.effects.third ≡ Some x). third e))
-      (λ (p : Listed r.component r.modes 16 x). rw p.3 (listed p.2))
-      e
+  all_effects x e = ⊎_elim (λ (p : Among r.effects x). named p.0 p.1) (λ (p : Owned r.modes x). owned_effect r.modes x refl p) e
 
   effects_all : (x : Item) → Effect r x → Placed x → All x
-  effects_all x (first e) l = inl (inl (inl e))
-  effects_all x (second e) l = inl (inl (inr e))
-  effects_all x (third e) l = inl (inr e)
-  effects_all x (listed {m = m} h) l = inr (m, (placed_mode r.component m l).high, h, refl)
+  effects_all x (named i e) l = inl (i, e)
+  effects_all x (listed {o = o} {m = m} e h) l = inr (rw e (m, (placed_mode o.component m l).high, h, refl))
 
-  adds_effects : Adds (Effect r) a (with_modes (with_items a r.effects) r.component r.modes 16)
+  adds_effects : Adds (Effect r) a (with_listed (with_items a r.effects) r.modes)
   adds_effects =
-      let x = r.effects in
-      let t1 = with_mark_of a x.first in
-      let t2 = with_mark_of t1 x.second in
-      let t3 = with_mark_of t2 x.third in
-      let p1 = adds_mark_of a long x.first in
-      let p2 = adds_join _ _ a t1 t2 p1 (adds_mark_of t1 (p1.long ∙ long) x.second) in
-      let p3 = adds_join _ _ a t2 t3 p2 (adds_mark_of t2 (p2.long ∙ long) x.third) in
-      let p4 = adds_join _ _ a t3 (with_modes t3 r.component r.modes 16) p3 (adds_modes t3 (p3.long ∙ long) r.component r.modes 16) in
-      adds_as All (Effect r) a (with_modes t3 r.component r.modes 16) all_effects effects_all p4
+      let t = with_items a r.effects in
+      let p = adds_items r.effects a long in
+      let q = adds_listed r.modes t (p.long ∙ long) in
+      adds_as All (Effect r) a (with_listed t r.modes) all_effects effects_all (adds_join (Among r.effects) (Owned r.modes) a t (with_listed t r.modes) p q)
 
 -- ---- causes
 
-is_more : (j k : Item → Bool) → ((x : Item) → j x ≡ true → k x ≡ true) → (o : Option Item) → is o j ≡ true → is o k ≡ true
-is_more j k w None h = absurd (false≢true h)
-is_more j k w (Some x) h = w x h
+module _ (j k : Item → Bool) (w : (x : Item) → j x ≡ true → k x ≡ true) where
+  is_more : (o : Option Item) → is o j ≡ true → is o k ≡ true
+  is_more None h = absurd (false≢true h)
+  is_more (Some x) h = w x h
 
-caused_more : (j k : Item → Bool) → ((x : Item) → j x ≡ true → k x ≡ true) → (r : Rule) → caused j r ≡ true → caused k r ≡ true
-caused_more j k w r h =
-    let x = r.causes in
-    ⊎_elim
-    (λ (e : is x.first j ≡ true). or_left (is x.first k) (is x.second k || is x.third k) (is_more j k w x.first e))
-    (λ (e : (is x.second j || is x.third j) ≡ true).
-    or_right (is x.first k) (is x.second k || is x.third k)
-    (⊎_elim
-    (λ (e : is x.second j ≡ true). or_left (is x.second k) (is x.third k) (is_more j k w x.second e))
-    (λ (e : is x.third j ≡ true). or_right (is x.second k) (is x.third k) (is_more j k w x.third e))
-    (or_cases (is x.second j) (is x.third j) e)))
-    (or_cases (is x.first j) (is x.second j || is x.third j) h)
+  some_more : (os : List (Option Item)) → list_any (λ o. is o j) os ≡ true → list_any (λ o. is o k) os ≡ true
+  some_more [] h = absurd (false≢true h)
+  some_more (o ∷ os) h =
+      let rest = list_any (λ o. is o k) os in
+      ⊎_elim
+      (λ (e : is o j ≡ true). or_left (is o k) rest (is_more o e))
+      (λ (e : list_any (λ o. is o j) os ≡ true). or_right (is o k) rest (some_more os e))
+      (or_cases (is o j) (list_any (λ o. is o j) os) h)
+
+  caused_more : (r : Rule) → caused j r ≡ true → caused k r ≡ true
+  caused_more r h = some_more r.causes h
 
 -- ---- passes
 
@@ -175,8 +198,8 @@ module _ (s : Sheet) where
         needed = λ chosen. needed_join chosen a b c (p.needed chosen) (q.needed chosen);
         applies = λ k i r h e.
             ⊎_elim
-            (λ (h : P k i). λ caught x f. (q.needed (λ n. true)).grows _ (p.applies k i r h e caught x f))
-            (λ (h : Q k i). λ caught x f. q.applies k i r h e (caused_more (marked a) (marked b) (λ y m. (p.needed (λ n. true)).grows _ m) r caught) x f)
+            (λ (h : P k i). λ caught x f. stays_marked b c (q.needed (λ n. true)).grows x (p.applies k i r h e caught x f))
+            (λ (h : Q k i). λ caught x f. q.applies k i r h e (caused_more (marked a) (marked b) (stays_marked a b (p.needed (λ n. true)).grows) r caught) x f)
             h;
       }
 
@@ -188,7 +211,7 @@ module _ (s : Sheet) where
   module _ (a : List Bool) (long : length a ≡ places) (r : Rule) where
     rule_needed : ((j : Item → Bool) (chosen : Chosen) → RulesHold s chosen j → Holds r j j) → (chosen : Chosen) → Needed s chosen a (applied a r)
     rule_needed holds chosen =
-        let t = with_modes (with_items a r.effects) r.component r.modes 16 in
+        let t = with_listed (with_items a r.effects) r.modes in
         let p = adds_effects a long r in
         ⊎_elim
         (λ (h : caused (marked a) r ≡ true).
@@ -203,7 +226,7 @@ module _ (s : Sheet) where
 
     rule_applies : ((x : Item) → Effect r x → Placed x) → Holds r (marked a) (marked (applied a r))
     rule_applies placed h x f =
-        let t = with_modes (with_items a r.effects) r.component r.modes 16 in
+        let t = with_listed (with_items a r.effects) r.modes in
         ap (λ t. marked t x) (cond-true (caused (marked a) r) t a h) ∙ (adds_effects a long r).has x f (placed x f)
 
   same_rule : (o : Option Rule) (r q : Rule) → o ≡ Some r → o ≡ Some q → r ≡ q

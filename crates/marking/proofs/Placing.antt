@@ -1,5 +1,5 @@
 -- The effects of the rules of an accepted sheet have places.
-use Rattle.std.proofs.Common.{◌≡◌, ℕ, zero, suc, ◌+◌, ◌%◌, ◌^◌, ◌<◌, ◌≤◌, Bool, true, false, cond, not, ◌&&◌, eqb, ltb, leb, List, [], get_or, is_some, Some, None, Option, sym, refl, subst, ⊎_elim, div-one, arith, pow_mono, Err}
+use Rattle.std.proofs.Common.{◌≡◌, ℕ, zero, suc, ◌+◌, ◌%◌, ◌^◌, ◌<◌, ◌≤◌, Bool, true, false, cond, not, ◌&&◌, eqb, ltb, leb, List, [], ◌∷◌, get_or, is_some, Some, None, Option, sym, refl, subst, ⊎_elim, div-one, arith, pow_mono, Err}
 use native.Mathlib.Nat.{div-eq_of_lt}
 use Rattle.std.proofs.lemmas.Bool.{false≢true, both_ways, and_parts, ltb-true, leb-true, eqb-true, cases_lt}
 use Rattle.sheet.specs.Entry.{Entry, malformed}
@@ -24,11 +24,13 @@ use Rattle.sheet.proofs.Meaning.{there_inside, keeps_the_rules}
 use Rattle.sheet.proofs.Shapes.{sized}
 use Rattle.running.specs.Values.{lists}
 use Rattle.cutting.specs.declared.kinds.Thing.TheVariants.{Element as KeptElement, Event as KeptEvent, Mode as KeptMode}
+use Rattle.cutting.specs.Agreement.{Every}
 use Rattle.marking.specs.declared.kinds.Item.{Item}
 use Rattle.marking.specs.declared.kinds.Item.TheVariants.{Thing as ThatThing, Node as ThatNode}
+use Rattle.marking.specs.declared.kinds.OwnedModes.{OwnedModes}
 use Rattle.marking.specs.declared.kinds.Rule.{Rule}
 use Rattle.marking.specs.Items.{Placed}
-use Rattle.marking.specs.Rules.{node_rule, flow_rule, connection_rule, transition_rule, setting_rule, event_items, rule_at, Effect, first, second, third, listed}
+use Rattle.marking.specs.Rules.{node_rule, flow_rule, connection_rule, transition_rule, setting_rule, event_items, rule_at, Effect, named, listed}
 use Rattle.marking.proofs.Origins.{Origin, of_node, of_flow, of_connection, of_transition, of_setting, origin}
 use Rattle.marking.proofs.Tables.{element_placed, event_placed, mode_placed, node_placed}
 
@@ -179,25 +181,30 @@ placed_some : (o : Option Item) → PlacedIf o → (x : Item) → o ≡ Some x �
 placed_some None p x e = no_pass x (sym e)
 placed_some (Some y) p x e = let same : y ≡ x = cc in subst Placed same p
 
+-- by place
+pub each_at : (P : Option Item → Type 0) → P None → (os : List (Option Item)) → Every P os → (i : ℕ) → P (get_or os i None)
+each_at P none [] p i = none
+each_at P none (o ∷ os) p zero = p.0
+each_at P none (o ∷ os) p (suc i) = each_at P none os p.1 i
+
+same_modes : (u o : OwnedModes) → Some u ≡ Some o → u ≡ o
+same_modes u o q = cc
+
 -- The effects that a rule names have places.
 record EffectsPlaced (r : Rule) : Type 0 where
-  one : PlacedIf r.effects.first
-  two : PlacedIf r.effects.second
-  three : PlacedIf r.effects.third
-  modes : (m : ℕ) → lists r.modes m ≡ true → Placed (ThatThing (KeptMode r.component m))
+  items : Every PlacedIf r.effects
+  modes : (o : OwnedModes) (m : ℕ) → r.modes ≡ Some o → lists o.modes m ≡ true → Placed (ThatThing (KeptMode o.component m))
 
 effects_placed : (r : Rule) → EffectsPlaced r → (x : Item) → Effect r x → Placed x
-effects_placed r p x (first e) = placed_some r.effects.first p.one x e
-effects_placed r p x (second e) = placed_some r.effects.second p.two x e
-effects_placed r p x (third e) = placed_some r.effects.third p.three x e
-effects_placed r p x (listed {m = m} e) = p.modes m e
+effects_placed r p x (named i e) = placed_some (get_or r.effects i None) (each_at PlacedIf tt r.effects p.items i) x e
+effects_placed r p x (listed {o = o} {m = m} q e) = p.modes o m q e
 
--- no mode is listed in the set of none
-pub none_is_listed : (m : ℕ) → lists 0 m ≡ true → ⊥
-none_is_listed m h = let below = listed_below 0 0 m (omega arith) h in omega arith
+none_listed : (o : OwnedModes) (m : ℕ) → ◌≡◌ {A = Option OwnedModes} None (Some o) → lists o.modes m ≡ true → Placed (ThatThing (KeptMode o.component m))
+none_listed o m q h = no_pass o (sym q)
 
-none_listed : (m : ℕ) → lists 0 m ≡ true → Placed (ThatThing (KeptMode 0 m))
-none_listed m h = absurd (none_is_listed m h)
+-- what holds of the modes that are listed holds of those that a rule lists
+pub some_listed : (P : Item → Type 0) (u : OwnedModes) → ((m : ℕ) → lists u.modes m ≡ true → P (ThatThing (KeptMode u.component m))) → (o : OwnedModes) (m : ℕ) → Some u ≡ Some o → lists o.modes m ≡ true → P (ThatThing (KeptMode o.component m))
+some_listed P u h o m q = subst (λ (o : OwnedModes). lists o.modes m ≡ true → P (ThatThing (KeptMode o.component m))) (same_modes u o q) (h m)
 
 module _ (s : Sheet) (a : accepted s ≡ true) where
   two_nodes : (f : Node → Bool) (n b c : ℕ) → ((ltb b n && is (node_at s b) f) && (ltb c n && is (node_at s c) f)) ≡ true → Placed (ThatNode b) × Placed (ThatNode c)
@@ -219,16 +226,16 @@ module _ (s : Sheet) (a : accepted s ≡ true) where
       by (Some x) q h = element_there s a e x q
 
   named_placed : (n : ℕ) (y : Node) → node_names s n y ≡ true → NamesMode y → EffectsPlaced (node_rule n y)
-  named_placed n (Constant v) h m = record { one = tt; two = tt; three = tt; modes = none_listed }
-  named_placed n (Reading e) h m = record { one = named_element e h; two = tt; three = tt; modes = none_listed }
-  named_placed n (Sum b c) h m = let p = value_nodes n b c h in record { one = p.0; two = p.1; three = tt; modes = none_listed }
-  named_placed n (Difference b c) h m = let p = value_nodes n b c h in record { one = p.0; two = p.1; three = tt; modes = none_listed }
-  named_placed n True h m = record { one = tt; two = tt; three = tt; modes = none_listed }
-  named_placed n (Equal b c) h m = let p = value_nodes n b c h in record { one = p.0; two = p.1; three = tt; modes = none_listed }
-  named_placed n (Less b c) h m = let p = value_nodes n b c h in record { one = p.0; two = p.1; three = tt; modes = none_listed }
-  named_placed n (Not b) h m = record { one = node_there s a b (λ x. not (gives_value x)) (and_parts (ltb b n) (condition_node s b) h).1; two = tt; three = tt; modes = none_listed }
-  named_placed n (And b c) h m = let p = condition_nodes n b c h in record { one = p.0; two = p.1; three = tt; modes = none_listed }
-  named_placed n (InMode c k) h m = record { one = has_mode_there s a c k h m; two = tt; three = tt; modes = none_listed }
+  named_placed n (Constant v) h m = record { items = (tt, (tt, (tt, tt))); modes = none_listed }
+  named_placed n (Reading e) h m = record { items = (named_element e h, (tt, (tt, tt))); modes = none_listed }
+  named_placed n (Sum b c) h m = let p = value_nodes n b c h in record { items = (p.0, (p.1, (tt, tt))); modes = none_listed }
+  named_placed n (Difference b c) h m = let p = value_nodes n b c h in record { items = (p.0, (p.1, (tt, tt))); modes = none_listed }
+  named_placed n True h m = record { items = (tt, (tt, (tt, tt))); modes = none_listed }
+  named_placed n (Equal b c) h m = let p = value_nodes n b c h in record { items = (p.0, (p.1, (tt, tt))); modes = none_listed }
+  named_placed n (Less b c) h m = let p = value_nodes n b c h in record { items = (p.0, (p.1, (tt, tt))); modes = none_listed }
+  named_placed n (Not b) h m = record { items = (node_there s a b (λ x. not (gives_value x)) (and_parts (ltb b n) (condition_node s b) h).1, (tt, (tt, tt))); modes = none_listed }
+  named_placed n (And b c) h m = let p = condition_nodes n b c h in record { items = (p.0, (p.1, (tt, tt))); modes = none_listed }
+  named_placed n (InMode c k) h m = record { items = (has_mode_there s a c k h m, (tt, (tt, tt))); modes = none_listed }
 
   -- by what a row holds in its bytes
   held_by : {X : Type 0} (P : X → Type 0) (entry : Row → Entry X) (rs : List Row) → ((r : Row) → HeldAll P (entry r)) → (i : ℕ) (x : X) → there entry rs i ≡ Some x → P x
@@ -243,7 +250,7 @@ module _ (s : Sheet) (a : accepted s ≡ true) where
       let q = and_parts (is (element_at s x.port) (λ p. is_port p && has_modes s p.component x.modes)) (value_node s x.node) right in
       let modes = (and_parts (is_port p) (has_modes s p.component x.modes) (is_at (element_at s x.port) (λ p. is_port p && has_modes s p.component x.modes) p h q.0)).1 in
       let even = held_by (λ x. x.modes % 2 ≡ 0) flow_entry (rows s flows) flow_even i x e in
-      record { one = node_there s a x.node gives_value q.1; two = tt; three = tt; modes = λ m l. listed_there s a p.component x.modes m modes even l }
+      record { items = (node_there s a x.node gives_value q.1, (tt, (tt, tt))); modes = some_listed Placed (record { component = p.component; modes = x.modes }) (λ m l. listed_there s a p.component x.modes m modes even l) }
 
   connection_placing : (i : ℕ) (x : Connection) → connection_at s i ≡ Some x → EffectsPlaced (connection_rule x)
   connection_placing i x e =
@@ -252,7 +259,7 @@ module _ (s : Sheet) (a : accepted s ≡ true) where
       let o = is_cases (event_at s x.out_event) (λ u. goes_out u && is (event_at s x.in_event) (λ v. not (goes_out v) && not (eqb u.component v.component))) q.0 in
       let v = is_cases (event_at s x.in_event) (λ v. not (goes_out v) && not (eqb o.0.component v.component)) (and_parts (goes_out o.0) _ o.2).1 in
       let even = held_by (λ x. x.modes % 2 ≡ 0) connection_entry (rows s connections) connection_even i x e in
-      record { one = event_there s a x.out_event o.0 o.1; two = event_there s a x.in_event v.0 v.1; three = tt; modes = λ m l. listed_there s a x.owner x.modes m q.1 even l }
+      record { items = (event_there s a x.out_event o.0 o.1, (event_there s a x.in_event v.0 v.1, (tt, tt))); modes = some_listed Placed (record { component = x.owner; modes = x.modes }) (λ m l. listed_there s a x.owner x.modes m q.1 even l) }
 
   from_placed : (t : ℕ) (y : Transition) → transition_at s t ≡ Some y → Placed (ThatThing (KeptMode y.component y.from))
   from_placed t y e =
@@ -270,12 +277,12 @@ module _ (s : Sheet) (a : accepted s ≡ true) where
       let p = and_parts (has_mode s y.component y.from) _ right in
       let q = and_parts (has_mode s y.component y.to) _ p.1 in
       let u = and_parts (event_of s y.component y.event) (condition_node s y.guard) q.1 in
-      record { one = from_placed t y e; two = event_named_placed y.component y.event u.0; three = node_there s a y.guard (λ x. not (gives_value x)) u.1; modes = none_listed }
+      record { items = (from_placed t y e, (event_named_placed y.component y.event u.0, (node_there s a y.guard (λ x. not (gives_value x)) u.1, tt))); modes = none_listed }
 
   setting_placing : (i : ℕ) (x : Setting) (y : Transition) → setting_at s i ≡ Some x → transition_at s x.transition ≡ Some y → EffectsPlaced (setting_rule x y)
   setting_placing i x y e h =
       let right = ((keeps_the_rules s a).settings_right.passes i x e).names_right in
-      record { one = from_placed x.transition y h; two = node_there s a x.node gives_value (and_parts (settable (transition_at s x.transition) (element_at s x.element)) (value_node s x.node) right).1; three = tt; modes = none_listed }
+      record { items = (from_placed x.transition y h, (node_there s a x.node gives_value (and_parts (settable (transition_at s x.transition) (element_at s x.element)) (value_node s x.node) right).1, (tt, tt))); modes = none_listed }
 
   placing : (k i : ℕ) (r : Rule) → Origin s k i r → EffectsPlaced r
   placing k i r (of_node y l e q) = subst EffectsPlaced q (node_placing i y e)

@@ -10,14 +10,15 @@ use Rattle.sheet.specs.Tries.{Try, must, first_fault, each}
 use Rattle.sheet.proofs.Firsts.{each_more, each_stops}
 use Rattle.running.proofs.Finds.{same_found}
 use Rattle.cutting.specs.declared.kinds.NoCut.{NoCut}
-use Rattle.cutting.specs.CutSheet.{no_cut, cut_fault}
+use Rattle.cutting.specs.declared.kinds.NoCut.TheVariants.{EmptySet, NoQuestion}
+use Rattle.cutting.specs.CutSheet.{cut_fault}
 use Rattle.cutting.specs.Kept.{chosen_in}
 use Rattle.marking.specs.declared.kinds.Item.TheVariants.{Node as ThatNode}
 use Rattle.marking.specs.Items.{places, marked, with_mark}
 use Rattle.marking.specs.Passes.{Needed, Asked}
 use Rattle.marking.proofs.Passes.{needed_none, needed_join}
 use Rattle.marking.proofs.Placing.{question_placed}
-use Rattle.marking.proofs.Tables.{mark_placed, mark_grows, mark_long, mark_only}
+use Rattle.marking.proofs.Tables.{mark_placed, mark_grows, mark_long, mark_only, stays_marked}
 
 -- a set of 16 bits has no question from 16 on
 pub chosen_below : (set q : ℕ) → set < 2 ^ 16 → 16 ≤ q → chosen_in set q ≡ false
@@ -25,11 +26,11 @@ chosen_below set q small l = let low : set < 2 ^ q = omega (arith, small, pow_mo
 
 -- the try of question q
 abbrev try_of : Sheet → ℕ → ℕ → List (Try NoCut)
-try_of s set q = must (not (chosen_in set q) || is_some (question_at s q)) (no_cut q) ∷ []
+try_of s set q = must (not (chosen_in set q) || is_some (question_at s q)) (NoQuestion q) ∷ []
 
 -- From a to b the nodes of the chosen questions below n were marked, all of which are there.
 pub record AskedBelow (s : Sheet) (set : ℕ) (a b : List Bool) (n : ℕ) : Type 0 where
-  pub passes : first_fault (each n (λ q. must (not (chosen_in set q) || is_some (question_at s q)) (no_cut q) ∷ [])) ≡ None
+  pub passes : first_fault (each n (λ q. must (not (chosen_in set q) || is_some (question_at s q)) (NoQuestion q) ∷ [])) ≡ None
   pub needed : Needed s (chosen_in set) a b
   pub by_questions : (q : ℕ) (x : Question) → q < n → chosen_in set q ≡ true → question_at s q ≡ Some x → marked b (ThatNode x.node) ≡ true
 
@@ -53,9 +54,9 @@ module _ (s : Sheet) (set : ℕ) where
   mark_needed : (a : List Bool) → length a ≡ places → (n : ℕ) (x : Question) → chosen_in set n ≡ true → question_at s n ≡ Some x → Needed s (chosen_in set) a (with_mark a (ThatNode x.node))
   mark_needed a long n x c e =
       record {
-        long = mark_long a long (ThatNode x.node);
-        grows = mark_grows a long (ThatNode x.node);
-        within = λ j rules w. mark_only a long (ThatNode x.node) j (rules.by_questions n x c e) w;
+        long = mark_long a (ThatNode x.node);
+        grows = mark_grows a (ThatNode x.node);
+        within = λ j rules w. mark_only a (ThatNode x.node) j (rules.by_questions n x c e) w;
       }
 
   -- one that is
@@ -68,7 +69,7 @@ module _ (s : Sheet) (set : ℕ) where
         needed = needed_join s (chosen_in set) a b t p.needed (mark_needed b long_b n x c e);
         by_questions = λ q y l d f.
             ⊎_elim
-            (λ (below : q < n). mark_grows b long_b (ThatNode x.node) _ (p.by_questions q y below d f))
+            (λ (below : q < n). stays_marked b t (mark_grows b (ThatNode x.node)) (ThatNode y.node) (p.by_questions q y below d f))
             (λ (up : n ≤ q).
             let same : q ≡ n = omega arith in
             let one : x ≡ y = same_found (question_at s n) x y e (ap (question_at s) (sym same) ∙ f) in
@@ -77,13 +78,13 @@ module _ (s : Sheet) (set : ℕ) where
       }
 
   -- one that is chosen and missing or blank
-  pub asked_fails : (a b : List Bool) (n : ℕ) → n < 16 → (set ≡ 0 → ⊥) → chosen_in set n ≡ true → question_at s n ≡ None → AskedBelow s set a b n → cut_fault s set ≡ Some (no_cut n)
+  pub asked_fails : (a b : List Bool) (n : ℕ) → n < 16 → (set ≡ 0 → ⊥) → chosen_in set n ≡ true → question_at s n ≡ None → AskedBelow s set a b n → cut_fault s set ≡ Some (NoQuestion n)
   asked_fails a b n l some c e p =
-      let stops = each_stops (try_of s set) n 16 (no_cut n) p.passes (rw (c, e)) l in
+      let stops = each_stops (try_of s set) n 16 (NoQuestion n) p.passes (rw (c, e)) l in
       rw (ne_eqb set 0 some) stops
 
   -- the set is empty
-  pub none_asked : set ≡ 0 → cut_fault s set ≡ Some (no_cut 16)
+  pub none_asked : set ≡ 0 → cut_fault s set ≡ Some EmptySet
   none_asked e = rw e
 
   -- all questions

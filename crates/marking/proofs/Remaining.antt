@@ -1,5 +1,5 @@
 -- Of a closed set of things, with the nodes that remain, the rules hold.
-use Rattle.std.proofs.Common.{◌≡◌, ℕ, Bool, true, false, not, ◌&&◌, ◌||◌, eqb, ltb, ◌⊎◌, [], ◌∷◌, Some, None, Option, sym, refl, ap, ◌∙◌, subst, inl, inr, ⊎_elim}
+use Rattle.std.proofs.Common.{◌≡◌, ℕ, zero, suc, Bool, true, false, not, ◌&&◌, ◌||◌, eqb, ltb, ◌⊎◌, [], ◌∷◌, Some, None, Option, sym, refl, ap, ◌∙◌, subst, inl, inr, ⊎_elim}
 use Rattle.std.proofs.lemmas.Bool.{false≢true, and_parts, or_cases, or_left, or_right, eqb-true}
 use Rattle.sheet.specs.declared.rows.Connection.{Connection}
 use Rattle.sheet.specs.declared.rows.Element.{Element}
@@ -24,10 +24,10 @@ use Rattle.cutting.proofs.Restings.{rests_hit, rests_itself, rests_through, flow
 use Rattle.marking.specs.declared.kinds.Item.{Item}
 use Rattle.marking.specs.declared.kinds.Item.TheVariants.{Thing as ThatThing, Node as ThatNode}
 use Rattle.marking.specs.declared.kinds.Rule.{Rule}
-use Rattle.marking.specs.Rules.{event_items, node_rule, flow_rule, connection_rule, transition_rule, setting_rule, Effect, first, second, third, listed, Holds, RulesHold}
+use Rattle.marking.specs.Rules.{event_items, node_rule, flow_rule, connection_rule, transition_rule, setting_rule, Effect, named, listed, Holds, RulesHold}
 use Rattle.marking.proofs.Origins.{Origin, of_node, of_flow, of_connection, of_transition, of_setting, origin}
 use Rattle.marking.proofs.Passes.{some_same}
-use Rattle.marking.proofs.Placing.{none_is_listed}
+use Rattle.marking.proofs.Placing.{some_listed}
 use Rattle.marking.proofs.Resting.{Named, operand, element, mode, effect_named, rests_on_from}
 use Rattle.marking.proofs.Used.{Names, in_flow, in_guard, in_setting, in_question, used_from, names_used}
 
@@ -114,26 +114,29 @@ module _ (s : Sheet) (a : accepted s ≡ true) (chosen : Chosen) (k : Kept) (clo
   node_holds n y e h x f = node_named n y e (only_cause (is_used k chosen s n) h) x (effect_named n y x f)
 
   flow_effects : (i : ℕ) (x : Flow) (p : Element) → flow_at s i ≡ Some x → element_at s x.port ≡ Some p → k (KeptElement x.port) ≡ true → (z : Item) → Effect (flow_rule x p) z → j z ≡ true
-  flow_effects i x p e q h z (first u) =
+  flow_effects i x p e q h z (named zero u) =
       let right = (and_parts (is (element_at s x.port) (λ p. is_port p && has_modes s p.component x.modes)) (value_node s x.node) ((keeps_the_rules s a).flows_right.passes i x e).names_right).1 in
       ap j (sym (some_same (ThatNode x.node) z u)) ∙ name_remains x.node gives_value right (in_flow i x e h refl)
-  flow_effects i x p e q h z (second u) = no_item z u
-  flow_effects i x p e q h z (third u) = no_item z u
-  flow_effects i x p e q h z (listed {m = m} u) = closed.flow_modes i m x p e q h u
+  flow_effects i x p e q h z (named (suc zero) u) = no_item z u
+  flow_effects i x p e q h z (named (suc (suc zero)) u) = no_item z u
+  flow_effects i x p e q h z (named (suc (suc (suc n))) u) = no_item z u
+  flow_effects i x p e q h z (listed {o = o} {m = m} d u) = some_listed (λ z. j z ≡ true) (record { component = p.component; modes = x.modes }) (λ m u. closed.flow_modes i m x p e q h u) o m d u
 
   flow_holds : (i : ℕ) (x : Flow) (p : Element) → flow_at s i ≡ Some x → element_at s x.port ≡ Some p → Holds (flow_rule x p) j j
   flow_holds i x p e q h = flow_effects i x p e q (only_cause (k (KeptElement x.port)) h)
 
   connection_effects : (i : ℕ) (x : Connection) → connection_at s i ≡ Some x → (k (KeptEvent x.out_event) ≡ true) ⊎ (k (KeptEvent x.in_event) ≡ true) → (z : Item) → Effect (connection_rule x) z → j z ≡ true
-  connection_effects i x e h z (first u) =
+  connection_effects i x e h z (named zero u) =
       ap j (sym (some_same (ThatThing (KeptEvent x.out_event)) z u)) ∙ ⊎_elim (λ (g : k (KeptEvent x.out_event) ≡ true). g) (λ (g : k (KeptEvent x.in_event) ≡ true). closed.connection_out i x e g) h
-  connection_effects i x e h z (second u) =
+  connection_effects i x e h z (named (suc zero) u) =
       ap j (sym (some_same (ThatThing (KeptEvent x.in_event)) z u)) ∙ ⊎_elim (λ (g : k (KeptEvent x.out_event) ≡ true). closed.connection_in i x e g) (λ (g : k (KeptEvent x.in_event) ≡ true). g) h
-  connection_effects i x e h z (third u) = no_item z u
-  connection_effects i x e h z (listed {m = m} u) =
+  connection_effects i x e h z (named (suc (suc zero)) u) = no_item z u
+  connection_effects i x e h z (named (suc (suc (suc n))) u) = no_item z u
+  connection_effects i x e h z (listed {o = o} {m = m} d u) =
       let out = k (KeptEvent x.out_event) in
       let into = k (KeptEvent x.in_event) in
-      closed.connection_modes i m x e (⊎_elim (λ (g : out ≡ true). or_left out into g) (λ (g : into ≡ true). or_right out into g) h) u
+      let either = ⊎_elim (λ (g : out ≡ true). or_left out into g) (λ (g : into ≡ true). or_right out into g) h in
+      some_listed (λ z. j z ≡ true) (record { component = x.owner; modes = x.modes }) (λ m u. closed.connection_modes i m x e either u) o m d u
 
   -- a rule with two causes
   two_causes : (b c : Bool) → (b || (c || false)) ≡ true → (b ≡ true) ⊎ (c ≡ true)
@@ -154,17 +157,18 @@ module _ (s : Sheet) (a : accepted s ≡ true) (chosen : Chosen) (k : Kept) (clo
   event_kept (Some v) h = (v, refl, h)
 
   transition_effects : (t : ℕ) (y : Transition) → transition_at s t ≡ Some y → keeps_from k y ≡ true → (z : Item) → Effect (transition_rule y) z → j z ≡ true
-  transition_effects t y e h z (first u) = ap j (sym (some_same (ThatThing (KeptMode y.component y.from)) z u)) ∙ h
-  transition_effects t y e h z (second u) =
+  transition_effects t y e h z (named zero u) = ap j (sym (some_same (ThatThing (KeptMode y.component y.from)) z u)) ∙ h
+  transition_effects t y e h z (named (suc zero) u) =
       let p = event_found y.event z u in
       ap j (sym p.2) ∙ closed.touched_event t p.0 y e (or_left (keeps_from k y) (k (KeptMode y.component y.to)) h) p.1
-  transition_effects t y e h z (third u) =
+  transition_effects t y e h z (named (suc (suc zero)) u) =
       let right = ((keeps_the_rules s a).transitions_right.passes t y e).names_right in
       let p = and_parts (has_mode s y.component y.from) _ right in
       let q = and_parts (has_mode s y.component y.to) _ p.1 in
       let g = (and_parts (event_of s y.component y.event) (condition_node s y.guard) q.1).1 in
       ap j (sym (some_same (ThatNode y.guard) z u)) ∙ name_remains y.guard (λ x. not (gives_value x)) g (in_guard t y e h refl)
-  transition_effects t y e h z (listed {m = m} u) = absurd (none_is_listed m u)
+  transition_effects t y e h z (named (suc (suc (suc n))) u) = no_item z u
+  transition_effects t y e h z (listed {o = o} d u) = no_pass o (sym d)
 
   transition_holds : (t : ℕ) (y : Transition) → transition_at s t ≡ Some y → Holds (transition_rule y) j j
   transition_holds t y e h =
@@ -174,20 +178,21 @@ module _ (s : Sheet) (a : accepted s ≡ true) (chosen : Chosen) (k : Kept) (clo
       transition_effects t y e
       (⊎_elim
       (λ (u : from ≡ true). u)
-      (λ (u : (to || event) ≡ true).
+      (λ (u : (to || (event || false)) ≡ true).
       ⊎_elim
       (λ (v : to ≡ true). closed.touched_from t y e (or_right from to v))
-      (λ (v : event ≡ true). let p = event_kept y.event v in closed.event_from t p.0 y e p.1 p.2)
-      (or_cases to event u))
-      (or_cases from (to || event) h))
+      (λ (v : (event || false) ≡ true). let p = event_kept y.event (only_cause event v) in closed.event_from t p.0 y e p.1 p.2)
+      (or_cases to (event || false) u))
+      (or_cases from (to || (event || false)) h))
 
   setting_effects : (i : ℕ) (x : Setting) (y : Transition) → setting_at s i ≡ Some x → transition_at s x.transition ≡ Some y → k (KeptElement x.element) ≡ true → (z : Item) → Effect (setting_rule x y) z → j z ≡ true
-  setting_effects i x y e q h z (first u) = ap j (sym (some_same (ThatThing (KeptMode y.component y.from)) z u)) ∙ closed.setting_from i x y e q h
-  setting_effects i x y e q h z (second u) =
+  setting_effects i x y e q h z (named zero u) = ap j (sym (some_same (ThatThing (KeptMode y.component y.from)) z u)) ∙ closed.setting_from i x y e q h
+  setting_effects i x y e q h z (named (suc zero) u) =
       let right = (and_parts (settable (transition_at s x.transition) (element_at s x.element)) (value_node s x.node) ((keeps_the_rules s a).settings_right.passes i x e).names_right).1 in
       ap j (sym (some_same (ThatNode x.node) z u)) ∙ name_remains x.node gives_value right (in_setting i x y e q (closed.setting_from i x y e q h) h refl)
-  setting_effects i x y e q h z (third u) = no_item z u
-  setting_effects i x y e q h z (listed {m = m} u) = absurd (none_is_listed m u)
+  setting_effects i x y e q h z (named (suc (suc zero)) u) = no_item z u
+  setting_effects i x y e q h z (named (suc (suc (suc n))) u) = no_item z u
+  setting_effects i x y e q h z (listed {o = o} d u) = no_pass o (sym d)
 
   setting_holds : (i : ℕ) (x : Setting) (y : Transition) → setting_at s i ≡ Some x → transition_at s x.transition ≡ Some y → Holds (setting_rule x y) j j
   setting_holds i x y e q h = setting_effects i x y e q (only_cause (k (KeptElement x.element)) h)

@@ -1,5 +1,5 @@
 -- What marked nodes rest on, by the rules of the nodes.
-use Rattle.std.proofs.Common.{◌≡◌, ℕ, Bool, true, false, ◌||◌, eqb, List, [], ◌∷◌, Some, None, Option, sym, refl, ap, ◌∙◌, subst, ⊎_elim}
+use Rattle.std.proofs.Common.{◌≡◌, ℕ, Bool, true, false, ◌||◌, eqb, List, [], ◌∷◌, get_or, Some, None, Option, sym, refl, ap, ◌∙◌, subst, ⊎_elim}
 use Rattle.std.proofs.lemmas.Bool.{false≢true, and_parts, and_from, or_cases, or_left, or_right, eqb-true, eq-eqb}
 use Rattle.std.specs.Option.{option_map}
 use Rattle.sheet.specs.declared.rows.Node.{Node}
@@ -13,23 +13,24 @@ use Rattle.sheet.specs.Sections.{Row, Sheet, rows, nodes}
 use Rattle.sheet.proofs.Firsts.{no_pass}
 use Rattle.sheet.proofs.Rested.{resting_is_reaching}
 use Rattle.cutting.specs.declared.kinds.Thing.TheVariants.{Element as KeptElement, Mode as KeptMode}
+use Rattle.cutting.specs.Agreement.{Every}
 use Rattle.cutting.specs.Kept.{Chosen}
 use Rattle.marking.specs.declared.kinds.Item.{Item}
 use Rattle.marking.specs.declared.kinds.Item.TheVariants.{Thing as ThatThing, Node as ThatNode}
-use Rattle.marking.specs.Rules.{node_rule, named_items, Effect, first, second, third, listed, RulesHold}
-use Rattle.marking.proofs.Placing.{none_is_listed}
+use Rattle.marking.specs.Rules.{node_rule, named_items, Effect, named, listed, RulesHold}
+use Rattle.marking.proofs.Placing.{each_at}
 
 -- ---- one node: what it names is an effect of its rule
 
 module _ (n : ℕ) where
-  one_operand : (a o : ℕ) (x : Node) → (named_items x).first ≡ Some (ThatNode a) → eqb o a ≡ true → Effect (node_rule n x) (ThatNode o)
-  one_operand a o x e h = rw (eqb-true o a h) (first e)
+  one_operand : (a o : ℕ) (x : Node) → get_or (named_items x) 0 None ≡ Some (ThatNode a) → eqb o a ≡ true → Effect (node_rule n x) (ThatNode o)
+  one_operand a o x e h = rw (eqb-true o a h) (named 0 e)
 
-  two_operands : (a b o : ℕ) (x : Node) → (named_items x).first ≡ Some (ThatNode a) → (named_items x).second ≡ Some (ThatNode b) → among o (a ∷ b ∷ []) ≡ true → Effect (node_rule n x) (ThatNode o)
+  two_operands : (a b o : ℕ) (x : Node) → get_or (named_items x) 0 None ≡ Some (ThatNode a) → get_or (named_items x) 1 None ≡ Some (ThatNode b) → among o (a ∷ b ∷ []) ≡ true → Effect (node_rule n x) (ThatNode o)
   two_operands a b o x e f h =
       ⊎_elim
       (λ (q : eqb o a ≡ true). one_operand a o x e q)
-      (λ (q : (eqb o b || false) ≡ true). ⊎_elim (λ (u : eqb o b ≡ true). rw (eqb-true o b u) (second f)) (λ (u : false ≡ true). absurd (false≢true u)) (or_cases (eqb o b) false q))
+      (λ (q : (eqb o b || false) ≡ true). ⊎_elim (λ (u : eqb o b ≡ true). rw (eqb-true o b u) (named 1 f)) (λ (u : false ≡ true). absurd (false≢true u)) (or_cases (eqb o b) false q))
       (or_cases (eqb o a) (eqb o b || false) h)
 
   operand_effect : (x : Node) (o : ℕ) → among o (operands x) ≡ true → Effect (node_rule n x) (ThatNode o)
@@ -46,7 +47,7 @@ module _ (n : ℕ) where
 
   element_effect : (x : Node) (m e : ℕ) → hits (TheElement e) m x ≡ true → Effect (node_rule n x) (ThatThing (KeptElement e))
   element_effect (Constant v) m e h = absurd (false≢true h)
-  element_effect (Reading d) m e h = first (ap (λ d. Some (ThatThing (KeptElement d))) (eqb-true d e h))
+  element_effect (Reading d) m e h = named 0 (ap (λ d. Some (ThatThing (KeptElement d))) (eqb-true d e h))
   element_effect (Sum a b) m e h = absurd (false≢true h)
   element_effect (Difference a b) m e h = absurd (false≢true h)
   element_effect True m e h = absurd (false≢true h)
@@ -69,7 +70,7 @@ module _ (n : ℕ) where
   mode_effect (Less a b) m c j h = absurd (false≢true h)
   mode_effect (Not a) m c j h = absurd (false≢true h)
   mode_effect (And a b) m c j h = absurd (false≢true h)
-  mode_effect (InMode d k) m c j h = let p = and_parts (eqb d c) (eqb k j) h in first (same_mode d k c j (eqb-true d c p.0) (eqb-true k j p.1))
+  mode_effect (InMode d k) m c j h = let p = and_parts (eqb d c) (eqb k j) h in named 0 (same_mode d k c j (eqb-true d c p.0) (eqb-true k j p.1))
 
 -- ---- and the other way round
 
@@ -90,7 +91,7 @@ module _ (n : ℕ) where
   named_some y (Some z) p x e = let same : z ≡ x = cc in subst (Named n y) same p
 
   abbrev AllNamed : Node → Type 0
-  AllNamed y = NamedIf y (named_items y).first × NamedIf y (named_items y).second × NamedIf y (named_items y).third
+  AllNamed y = Every (NamedIf y) (named_items y)
 
   among_first : (a b : ℕ) → among a (a ∷ b ∷ []) ≡ true
   among_first a b = or_left (eqb a a) (eqb a b || false) (eq-eqb a a refl)
@@ -99,22 +100,20 @@ module _ (n : ℕ) where
   among_second a b = or_right (eqb b a) (eqb b b || false) (or_left (eqb b b) false (eq-eqb b b refl))
 
   all_named : (y : Node) → AllNamed y
-  all_named (Constant v) = (tt, tt, tt)
-  all_named (Reading e) = (element e (eq-eqb e e refl), tt, tt)
-  all_named (Sum a b) = (operand a (among_first a b), operand b (among_second a b), tt)
-  all_named (Difference a b) = (operand a (among_first a b), operand b (among_second a b), tt)
-  all_named True = (tt, tt, tt)
-  all_named (Equal a b) = (operand a (among_first a b), operand b (among_second a b), tt)
-  all_named (Less a b) = (operand a (among_first a b), operand b (among_second a b), tt)
-  all_named (Not a) = (operand a (or_left (eqb a a) false (eq-eqb a a refl)), tt, tt)
-  all_named (And a b) = (operand a (among_first a b), operand b (among_second a b), tt)
-  all_named (InMode c m) = (mode c m (and_from (eqb c c) (eqb m m) (eq-eqb c c refl) (eq-eqb m m refl)), tt, tt)
+  all_named (Constant v) = (tt, (tt, (tt, tt)))
+  all_named (Reading e) = (element e (eq-eqb e e refl), (tt, (tt, tt)))
+  all_named (Sum a b) = (operand a (among_first a b), (operand b (among_second a b), (tt, tt)))
+  all_named (Difference a b) = (operand a (among_first a b), (operand b (among_second a b), (tt, tt)))
+  all_named True = (tt, (tt, (tt, tt)))
+  all_named (Equal a b) = (operand a (among_first a b), (operand b (among_second a b), (tt, tt)))
+  all_named (Less a b) = (operand a (among_first a b), (operand b (among_second a b), (tt, tt)))
+  all_named (Not a) = (operand a (or_left (eqb a a) false (eq-eqb a a refl)), (tt, (tt, tt)))
+  all_named (And a b) = (operand a (among_first a b), (operand b (among_second a b), (tt, tt)))
+  all_named (InMode c m) = (mode c m (and_from (eqb c c) (eqb m m) (eq-eqb c c refl) (eq-eqb m m refl)), (tt, (tt, tt)))
 
   pub effect_named : (y : Node) (x : Item) → Effect (node_rule n y) x → Named n y x
-  effect_named y x (first e) = named_some y (named_items y).first (all_named y).0 x e
-  effect_named y x (second e) = named_some y (named_items y).second (all_named y).1 x e
-  effect_named y x (third e) = named_some y (named_items y).third (all_named y).2 x e
-  effect_named y x (listed {m = m} h) = absurd (none_is_listed m h)
+  effect_named y x (named i e) = named_some y (get_or (named_items y) i None) (each_at (NamedIf y) tt (named_items y) (all_named y) i) x e
+  effect_named y x (listed {o = o} q h) = no_pass o (sym q)
 
 -- ---- all that a node of the set rests on is in the set
 

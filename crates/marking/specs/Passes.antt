@@ -1,5 +1,5 @@
 -- Passes over the rows, and how they end.
-use Rattle.std.specs.Prelude.{◌≡◌, ℕ, ◌+◌, Bool, true, false, cond, List, [], ◌∷◌, length, Some, None, slice_index_or}
+use Rattle.std.specs.Prelude.{◌≡◌, ℕ, Bool, true, false, not, List, length, Some, None, slice_index_or, count_by}
 use Rattle.sheet.specs.declared.rows.Question.{Question}
 use Rattle.sheet.specs.Lookup.{question_at}
 use Rattle.sheet.specs.Sections.{Sheet}
@@ -13,8 +13,7 @@ use Rattle.marking.specs.Rules.{rule_at, Holds, RulesHold}
 
 -- the places of a table that are not marked
 abbrev pub unmarked : List Bool → ℕ
-unmarked [] = 0
-unmarked (b ∷ bs) = cond b 0 1 + unmarked bs
+unmarked t = count_by not t
 
 -- The marks of a are marks of b, and b has no other mark than those that every set with the marks of a has, if the rules
 -- hold of it.

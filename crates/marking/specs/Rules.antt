@@ -1,5 +1,6 @@
 -- The rules by which marks follow from marks, row by row.
-use Rattle.std.specs.Prelude.{◌≡◌, ℕ, zero, suc, Bool, true, cond, ◌||◌, List, Some, None, Option, ◌==◌}
+use Rattle.std.specs.Prelude.{◌≡◌, ℕ, zero, suc, Bool, true, cond, List, [], ◌∷◌, Some, None, Option, ◌==◌, slice_index_or}
+use Rattle.std.specs.List.{list_any, fold}
 use Rattle.std.specs.Option.{option_map}
 use Rattle.sheet.specs.declared.rows.Connection.{Connection}
 use Rattle.sheet.specs.declared.rows.Element.{Element}
@@ -16,7 +17,7 @@ use Rattle.cutting.specs.declared.kinds.Thing.TheVariants.{Element as KeptElemen
 use Rattle.cutting.specs.Kept.{Chosen}
 use Rattle.marking.specs.declared.kinds.Item.{Item}
 use Rattle.marking.specs.declared.kinds.Item.TheVariants.{Thing as ThatThing, Node as ThatNode}
-use Rattle.marking.specs.declared.kinds.Items.{Items}
+use Rattle.marking.specs.declared.kinds.OwnedModes.{OwnedModes}
 use Rattle.marking.specs.declared.kinds.Rule.{Rule}
 use Rattle.marking.specs.Items.{marked, with_mark}
 
@@ -39,15 +40,19 @@ abbrev pub event_items : Option ℕ → Option Item
 event_items None = None
 event_items (Some v) = event_item v
 
-abbrev pub items : (first second third : Option Item) → Items
-items x y z = record { first = x; second = y; third = z }
+abbrev pub items : (first second third : Option Item) → List (Option Item)
+items x y z = x ∷ y ∷ z ∷ []
 
 -- a rule that has no listed modes
-abbrev pub plain_rule : (causes effects : Items) → Rule
-plain_rule x y = record { causes = x; effects = y; component = 0; modes = 0 }
+abbrev pub plain_rule : (causes effects : List (Option Item)) → Rule
+plain_rule x y = record { causes = x; effects = y; modes = None }
+
+-- a rule with the modes of a set of a component
+abbrev pub rule_with_modes : (causes effects : List (Option Item)) → (component set : ℕ) → Rule
+rule_with_modes x y c set = record { causes = x; effects = y; modes = Some (record { component = c; modes = set }) }
 
 -- the items that a node names, and the nodes that are its operands
-abbrev pub named_items : Node → Items
+abbrev pub named_items : Node → List (Option Item)
 named_items (Constant v) = items None None None
 named_items (Reading e) = items (element_item e) None None
 named_items (Sum a b) = items (node_item a) (node_item b) None
@@ -65,17 +70,13 @@ node_rule n x = plain_rule (items (node_item n) None None) (named_items x)
 
 -- A flow to a port: the flow's node, and its listed modes of the port's component.
 abbrev pub flow_rule : Flow → Element → Rule
-flow_rule x p = record { causes = items (element_item x.port) None None; effects = items (node_item x.node) None None; component = p.component; modes = x.modes }
+flow_rule x p = rule_with_modes (items (element_item x.port) None None) (items (node_item x.node) None None) p.component x.modes
 
 -- A connection, by either event: both events, and its listed modes of its owner.
 abbrev pub connection_rule : Connection → Rule
 connection_rule x =
-    record {
-      causes = items (event_item x.out_event) (event_item x.in_event) None;
-      effects = items (event_item x.out_event) (event_item x.in_event) None;
-      component = x.owner;
-      modes = x.modes;
-    }
+    let events = items (event_item x.out_event) (event_item x.in_event) None in
+    rule_with_modes events events x.owner x.modes
 
 -- A transition, by its from mode, its to mode or its event: its from mode, its event and its guard.
 abbrev pub transition_rule : Transition → Rule
@@ -109,14 +110,12 @@ rule_at s k i =
 
 -- one of the causes is in j
 abbrev pub caused : (Item → Bool) → Rule → Bool
-caused j r = is r.causes.first j || (is r.causes.second j || is r.causes.third j)
+caused j r = list_any (λ o. is o j) r.causes
 
 -- The item is an effect of the rule.
 pub data Effect (r : Rule) : Item → Type 0 where
-  first : {x : Item} → r.effects.first ≡ Some x → Effect r x
-  second : {x : Item} → r.effects.second ≡ Some x → Effect r x
-  third : {x : Item} → r.effects.third ≡ Some x → Effect r x
-  listed : {m : ℕ} → lists r.modes m ≡ true → Effect r (ThatThing (KeptMode r.component m))
+  named : {x : Item} (i : ℕ) → slice_index_or r.effects i None ≡ Some x → Effect r x
+  listed : {o : OwnedModes} {m : ℕ} → r.modes ≡ Some o → lists o.modes m ≡ true → Effect r (ThatThing (KeptMode o.component m))
 
 -- If a cause is in j, the effects are in k.
 abbrev pub Holds : Rule → (j k : Item → Bool) → Type 0
@@ -142,9 +141,14 @@ with_modes table c set (suc n) = cond (lists set n) (with_mark (with_modes table
 abbrev pub mode_numbers : ℕ
 mode_numbers = 16
 
-abbrev pub with_items : List Bool → Items → List Bool
-with_items table x = with_mark_of (with_mark_of (with_mark_of table x.first) x.second) x.third
+abbrev pub with_items : List Bool → List (Option Item) → List Bool
+with_items table xs = fold with_mark_of table xs
+
+-- the table with the listed modes of a rule marked
+abbrev pub with_listed : List Bool → Option OwnedModes → List Bool
+with_listed table None = table
+with_listed table (Some o) = with_modes table o.component o.modes mode_numbers
 
 -- the table with the effects of a rule marked, if a cause is
 abbrev pub applied : List Bool → Rule → List Bool
-applied table r = cond (caused (marked table) r) (with_modes (with_items table r.effects) r.component r.modes mode_numbers) table
+applied table r = cond (caused (marked table) r) (with_listed (with_items table r.effects) r.modes) table

@@ -11,18 +11,19 @@ pub enum Item {
 }
 
 // At most three items.
+pub type Items = [Option<Item>; 3];
+
+// Some modes of a component.
 #[derive(Clone, Copy)]
-pub struct Items {
-    pub first: Option<Item>,
-    pub second: Option<Item>,
-    pub third: Option<Item>,
+pub struct OwnedModes {
+    pub component: u8,
+    pub modes: ModeSet,
 }
 
-// If one of the causes is marked, so are all effects and the listed modes of the component.
+// If one of the causes is marked, so are all effects and modes.
 #[derive(Clone, Copy)]
 pub struct Rule {
     pub causes: Items,
     pub effects: Items,
-    pub component: u8,
-    pub modes: ModeSet,
+    pub modes: Option<OwnedModes>,
 }

@@ -10,7 +10,7 @@ use Rattle.running.specs.Values.{plus}
 use Rattle.sheet.specs.declared.refusal.Refusal.{Refusal}
 use Rattle.sheet.specs.Sections.{Sheet, bytes_of}
 use Rattle.sheet.specs.Accept.{number_of, verdict, accept}
-use Rattle.cutting.specs.CutSheet.{cut_sheet, no_cut_number, cut_fault}
+use Rattle.cutting.specs.CutSheet.{cut_sheet, no_cut_number, question_told, cut_fault}
 use Rattle.cutting.specs.Kept.{chosen_in, Smallest}
 use Rattle.report.specs.Text.{report_of}
 use Rattle.worked_examples.specs.Sheets.{smallest, left_over, late_start, two_unit, two_unit_rows, two_unit_cut, two_unit_kept}
@@ -37,7 +37,7 @@ three_rounds = one_round (one_round (one_round at_start))
 
 -- the number of the refusal of a cut, and the question that it names; nothing where there is a cut
 abbrev pub cut_refused_by : Sheet → (set : ℕ) → Option (ℕ × ℕ)
-cut_refused_by s set = option_map (λ f. (no_cut_number f, f.question)) (cut_fault s set)
+cut_refused_by s set = option_map (λ f. (no_cut_number f, question_told f)) (cut_fault s set)
 
 pub record Examples : Type 0 where
   pub no_bytes : refused_by (verdict []) ≡ Some (1, 0, 0)

@@ -1,4 +1,4 @@
-use Rattle.std.proofs.Common.{◌-◌, Bool, List, sym, subst, arith}
+use Rattle.std.proofs.Common.{◌-◌, Bool, List, sym, subst, arith, rules}
 use Rattle.sheet.proofs.Shapes.{count_is}
 use Rattle.marking.specs.Passes.{Passed}
 use Rattle.marking.proofs.Walks.{RowsFrom, rows_none, rows_more, rows_blank, rows_all}
@@ -7,7 +7,7 @@ use Rattle.closing.proofs.close.apply_section.Goals as goal
 pub loop-row-init : goal.loop-row-init
 loop-row-init g c =
     let s = g.V.View.rows c.args.view.now in
-    let all = count_is s c.args.section c.requires.fits.accepts c.requires.inside c.count.result c.count.ensures in
+    let all = count_is s c.args.section (g.met.V.View.accepts c.args.view.now) c.requires c.count.result c.count.ensures in
     rows_none s c.args.section c.unwrap_or-count.result c.args.marks.now.table (omega (arith, all, c.unwrap_or-count.ensures))
 
 pub loop-row-preserved-in-Some : goal.loop-row-preserved-in-Some
@@ -18,7 +18,7 @@ loop-row-preserved-in-Some g c =
     let a = c.args.marks.now.table in
     let b = c.loop-row.marks.table in
     subst (λ (t : List Bool). Passed s (RowsFrom section (n - 1)) a t) (sym c.apply.ensures)
-    (rows_more s section n a b c.loop-row.invariant c.requires.fits.accepts c.requires.whole c.loop-row-test.true c.in-Some.rule (sym c.in-Some.ensures))
+    (rows_more s section n a b c.loop-row.invariant (g.met.V.View.accepts c.args.view.now) (search rules) c.loop-row-test.true c.in-Some.rule (sym c.in-Some.ensures))
 
 pub loop-row-preserved : goal.loop-row-preserved
 loop-row-preserved g c =

@@ -1,13 +1,9 @@
-use Rattle.std.proofs.Common.{true, ◌∙◌}
 use Rattle.marking.proofs.Passes.{needed_join, needed_none}
 use Rattle.marking.proofs.Walks.{settled}
 use Rattle.closing.proofs.close.close.Goals as goal
 
 pub loop-init : goal.loop-init
 loop-init g c chosen = needed_none (g.V.View.rows c.args.view.now) chosen c.args.marks.now.table
-
-pub pass-requires : goal.pass-requires
-pass-requires g c = record { fits = c.requires.fits; whole = (c.loop.invariant (λ q. true)).long ∙ c.requires.whole }
 
 pub loop-preserved : goal.loop-preserved
 loop-preserved g c chosen = needed_join (g.V.View.rows c.args.view.now) chosen c.args.marks.now.table c.loop.marks.table c.pass.new.marks.table (c.loop.invariant chosen) (c.pass.ensures.passed.needed chosen)

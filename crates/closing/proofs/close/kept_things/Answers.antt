@@ -1,12 +1,9 @@
-use Rattle.std.proofs.Common.{◌≡◌, length, ◌∙◌}
+use Rattle.std.proofs.Common.{◌≡◌, length, ◌∙◌, rules}
 use Rattle.cutting.specs.Kept.{chosen_in}
 use Rattle.marking.specs.Items.{places}
 use Rattle.marking.specs.Passes.{Asked}
 use Rattle.marking.proofs.KeptThings.{smallest_marks, remaining_marks}
 use Rattle.closing.proofs.close.kept_things.Goals as goal
-
-pub close-requires : goal.close-requires
-close-requires g c = record { fits = c.requires; whole = c.in_ok-mark_questions.ensures.needed.long ∙ c.none-marks.ensures.whole }
 
 pub returns : goal.returns
 returns g c =
@@ -15,10 +12,11 @@ returns g c =
     let none = c.none-marks.result.table in
     let asked = c.mark_questions.new.marks.table in
     let settled = c.close.new.marks.table in
+    let none_long : length none ≡ places = search rules in
     let by_questions : Asked s set none asked = c.in_ok-mark_questions.ensures in
-    let long : length settled ≡ places = (c.close.ensures.needed (chosen_in set)).long ∙ by_questions.needed.long ∙ c.none-marks.ensures.whole in
+    let long : length settled ≡ places = (c.close.ensures.needed (chosen_in set)).long ∙ by_questions.needed.long ∙ none_long in
     record {
       is_there = by_questions.is_there;
-      smallest = smallest_marks s c.requires.accepts set none asked settled long c.none-marks.ensures.unmarked by_questions c.close.ensures;
-      nodes = remaining_marks s c.requires.accepts set none asked settled long c.none-marks.ensures.unmarked by_questions c.close.ensures;
+      smallest = smallest_marks s (g.met.V.View.accepts c.args.view.now) set none asked settled long c.none-marks.ensures by_questions c.close.ensures;
+      nodes = remaining_marks s (g.met.V.View.accepts c.args.view.now) set none asked settled long c.none-marks.ensures by_questions c.close.ensures;
     }

@@ -1,4 +1,4 @@
-use Rattle.std.proofs.Common.{true, ◌∙◌, arith}
+use Rattle.std.proofs.Common.{arith}
 use Rattle.std.proofs.lemmas.Bool.{ltb-true, ltb-false}
 use Rattle.marking.specs.Passes.{Passed, EveryRow}
 use Rattle.marking.proofs.Walks.{sections_none, sections_more, sections_all, pass_same}
@@ -6,9 +6,6 @@ use Rattle.closing.proofs.close.pass.Goals as goal
 
 pub loop-section-init : goal.loop-section-init
 loop-section-init g c = sections_none (g.V.View.rows c.args.view.now) c.args.marks.now.table
-
-pub apply_section-requires : goal.apply_section-requires
-apply_section-requires g c = record { fits = c.requires.fits; whole = (c.loop-section.invariant.needed (λ q. true)).long ∙ c.requires.whole; inside = omega (arith, c.loop-section-test.true) }
 
 pub loop-section-preserved : goal.loop-section-preserved
 loop-section-preserved g c =

@@ -6,9 +6,6 @@ use Rattle.cutting.proofs.UniqueCuts.{smallest_is_unique, cut_is_unique}
 use Rattle.cut_rig.specs.Tables.{kept_in}
 use Rattle.cut_rig.proofs.cut.Cut.new.Goals as goal
 
-pub new-requires : goal.new-requires
-new-requires g c = record { fits = c.requires; accepts = (g.met.R.Rig.sound c.args.below c.requires).accepts }
-
 pub returns-in-Ok : goal.returns-in-Ok
 returns-in-Ok g c =
     let s = g.R.Rig.rows c.args.below in
