@@ -11,12 +11,13 @@ use crate::marks::Marks;
 use crate::rules::{NODES, QUESTIONS, rule_at};
 use cutting::kinds::{NoCut, QuestionSet};
 use marking::kinds::Item;
+use sheet::sizes::MOST_QUESTIONS;
 use view::typed::question;
 use view::values::lists_mode;
 use view::view::View;
 
 // The questions of a set are below this number.
-const QUESTION_NUMBERS: usize = 16;
+const QUESTION_NUMBERS: usize = MOST_QUESTIONS as usize;
 
 // Whether the question is in the set.
 pub fn is_chosen(set: QuestionSet, question: usize) -> bool

@@ -10,12 +10,11 @@ ghost use Rattle.sheet.specs.Lookup.{is, transition_at, connection_at, setting_a
 ghost use Rattle.view.specs.Fit.{Fit};
 
 use crate::tables::{ROWS, Tables};
-use closing::close::kept_things;
+use closing::close::{is_chosen, kept_things};
 use closing::marks::Marks;
 use cutting::kinds::{NoCut, QuestionSet, Thing};
 use sheet::sizes::SECTIONS;
 use view::typed::{connection, element, event, flow, node, question, setting, transition};
-use view::values::lists_mode;
 use view::view::View;
 
 // Whether transition t is there and its from mode is kept.
@@ -62,7 +61,7 @@ fn stays<V: View>(view: &V, marks: &Marks, set: QuestionSet, section: usize, row
         5 => connection_stays(view, marks, i),
         6 => transition_stays(view, marks, i),
         7 => setting_stays(view, marks, i),
-        8 => question(view, i).is_some() && lists_mode(set, row),
+        8 => question(view, i).is_some() && is_chosen(set, i),
         _ => false,
     }
 }
