@@ -11,13 +11,13 @@ use crate::rules::rule_at;
 use cutting::kinds::{NoCut, QuestionSet};
 use marking::kinds::Item;
 use sheet::rows::Question;
-use sheet::sizes::{NODES, QUESTIONS};
+use sheet::sizes::{MOST_QUESTIONS, NODES, QUESTIONS};
 use view::typed::row;
 use view::values::lists_mode;
 use view::view::View;
 
 // The questions of a set are below this number.
-const QUESTION_NUMBERS: usize = 16;
+const QUESTION_NUMBERS: usize = MOST_QUESTIONS as usize;
 
 // Whether the question is in the set.
 pub fn is_chosen(set: QuestionSet, question: usize) -> bool

@@ -13,13 +13,13 @@ use sheet::sizes::{MOST_COMPONENTS, MOST_ELEMENTS, MOST_EVENTS, MOST_NODES};
 use view::values::lists_mode;
 
 // The table has a place for each element, then for each event, for each mode of each component, and for each node.
-const FIRST_EVENT: usize = 64;
+const FIRST_EVENT: usize = MOST_ELEMENTS as usize;
 
-const FIRST_MODE: usize = 128;
+const FIRST_MODE: usize = FIRST_EVENT + MOST_EVENTS as usize;
 
-const FIRST_NODE: usize = 384;
+const FIRST_NODE: usize = FIRST_MODE + MODE_NUMBERS as usize * MOST_COMPONENTS as usize;
 // The number of places.
-const PLACES: usize = 512;
+const PLACES: usize = FIRST_NODE + MOST_NODES as usize;
 // The modes of a component, 0 included.
 const MODE_NUMBERS: u8 = 16;
 

@@ -9,7 +9,7 @@ ghost use Rattle.cutting.specs.Kept.{keeps_from, chosen_in};
 ghost use Rattle.sheet.specs.Lookup.{is, transition_at, connection_at, setting_at};
 
 use crate::tables::{ROWS, Tables};
-use closing::close::kept_things;
+use closing::close::{is_chosen, kept_things};
 use closing::marks::Marks;
 use cutting::kinds::{NoCut, QuestionSet, Thing};
 use sheet::rows::{Connection, Element, Event, Flow, Node, Question, Setting, Transition};
@@ -17,7 +17,6 @@ use sheet::sizes::{
     CONNECTIONS, ELEMENTS, EVENTS, FLOWS, NODES, QUESTIONS, SECTIONS, SETTINGS, TRANSITIONS,
 };
 use view::typed::row;
-use view::values::lists_mode;
 use view::view::View;
 
 // Whether transition t is there and its from mode is kept.
@@ -62,7 +61,7 @@ fn stays<V: View>(view: &V, marks: &Marks, set: QuestionSet, section: usize, num
         CONNECTIONS => connection_stays(view, marks, i),
         TRANSITIONS => transition_stays(view, marks, i),
         SETTINGS => setting_stays(view, marks, i),
-        QUESTIONS => row::<_, Question, _>(view, i).is_some() && lists_mode(set, number),
+        QUESTIONS => row::<_, Question, _>(view, i).is_some() && is_chosen(set, i),
         _ => false,
     }
 }

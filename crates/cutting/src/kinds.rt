@@ -4,6 +4,7 @@ ghost use Rattle.std.specs.Prelude.{◌≡◌};
 ghost use Rattle.cutting.specs.CutSheet.{question_told};
 
 use running::kinds::Step;
+use sheet::sizes::MOST_QUESTIONS;
 
 // A thing that a cut keeps or drops: an element or an event by its row number, or a mode by its component and number.
 #[derive(Clone, Copy, PartialEq, Eq, Debug)]
@@ -31,7 +32,7 @@ impl NoCut {
         ensures { result ≡ question_told self }
     {
         match self {
-            NoCut::EmptySet => 16,
+            NoCut::EmptySet => MOST_QUESTIONS as usize,
             NoCut::NoQuestion(q) => q,
         }
     }
