@@ -7,7 +7,7 @@ ghost use Rattle.session.specs.Calls.{words, number_in, call_named, call_of};
 ghost use Rattle.session.specs.Lines.{words_behind, opened};
 
 use crate::call::Call;
-use crate::hex::hex_bytes;
+use crate::sixteen::hex_bytes;
 use std::alloc::{AllocError, Global};
 
 // What the line asks, or none where it is no call.
