@@ -1,4 +1,3 @@
 pub mod Digits
 pub mod Words
 pub mod Numbers
-pub mod Opened
