@@ -1,5 +1,5 @@
 -- Words read as numbers.
-use Rattle.std.proofs.Common.{◌≡◌, ℕ, ◌^◌, ◌<◌, Bool, true, false, cond, ◌&&◌, ltb, List, [], ◌∷◌, length, Some, None, Result, Ok, Err, sym, refl, ap, ◌∙◌, arith}
+use Rattle.std.proofs.Common.{◌≡◌, ℕ, ◌^◌, ◌<◌, true, false, cond, ◌&&◌, ltb, List, [], ◌∷◌, length, Some, None, Result, Ok, Err, sym, refl, ap, ◌∙◌}
 use Rattle.std.proofs.lemmas.Bool.{lt-ltb, and_parts, and_right, false_from_ne_true}
 use Rattle.std.proofs.lemmas.Bool.Decides.{Decides-ltb}
 use Rattle.std.proofs.lemmas.Str.{IsUtf8-from_ascii}
@@ -39,9 +39,9 @@ read w (Err e) all h =
     let small = ltb (digits_value 10 w) (2 ^ 64) in
     let not : (some && (all_ascii_digits w && small)) ≡ false =
     false_from_ne_true (some && (all_ascii_digits w && small))
-        (λ t. let p = and_parts some (all_ascii_digits w && small) t in
-        let q = and_parts (all_ascii_digits w) small p.1 in
-        h ((Decides-ltb 0 (length w)).0 p.0, (Decides-ltb (digits_value 10 w) (2 ^ 64)).0 q.1)) in
+    (λ t. let p = and_parts some (all_ascii_digits w && small) t in
+    let q = and_parts (all_ascii_digits w) small p.1 in
+    h ((Decides-ltb 0 (length w)).0 p.0, (Decides-ltb (digits_value 10 w) (2 ^ 64)).0 q.1)) in
     sym (ap (λ t. cond t (Some (digits_value 10 w)) None) not)
 
 -- what `parse` gives for decimal digits

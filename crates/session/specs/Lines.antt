@@ -1,5 +1,5 @@
 -- Lines that open bytes.
-use Rattle.std.specs.Prelude.{ℕ, cond, List, [], ◌∷◌, Some, None, codes, Option}
+use Rattle.std.specs.Prelude.{ℕ, cond, List, [], ◌∷◌, None, codes, Option}
 use Rattle.std.specs.Str.{bytes_eq}
 use Rattle.session.specs.Sixteen.{hex_of}
 

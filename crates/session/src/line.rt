@@ -44,38 +44,19 @@ fn number_in(word: &[u8]) -> Option<usize>
     str::from_utf8(word).ok()?.parse().ok()
 }
 
+#[tactic(auto, using(crate::proofs::Names::no_name, crate::proofs::Names::answer_by_more))]
 fn call_by_name(name: &[u8], numbers: &[usize]) -> Option<Call>
     ensures { result ≡ call_named name.now numbers.now }
 {
-    match numbers {
-        [] if is_word(name, "home") => Some(Call::Home),
-        [n] => call_with_number(name, *n),
-        [n, m] if is_word(name, "pair") => Some(Call::Pair(*n, *m)),
-        [n, m, k] if is_word(name, "byte") => Some(Call::Byte(*n, *m, *k)),
+    match (str::from_utf8(name).ok()?, numbers) {
+        ("home", []) => Some(Call::Home),
+        ("alone", [n]) => Some(Call::Alone(*n)),
+        ("answer", [n]) => Some(Call::Answer(*n)),
+        ("mode", [n]) => Some(Call::Mode(*n)),
+        ("value", [n]) => Some(Call::Value(*n)),
+        ("count", [n]) => Some(Call::Count(*n)),
+        ("pair", [n, m]) => Some(Call::Pair(*n, *m)),
+        ("byte", [n, m, k]) => Some(Call::Byte(*n, *m, *k)),
         _ => None,
     }
-}
-
-fn call_with_number(name: &[u8], n: usize) -> Option<Call>
-    ensures { result ≡ call_named name.now (n ∷ []) }
-{
-    if is_word(name, "alone") {
-        Some(Call::Alone(n))
-    } else if is_word(name, "answer") {
-        Some(Call::Answer(n))
-    } else if is_word(name, "mode") {
-        Some(Call::Mode(n))
-    } else if is_word(name, "value") {
-        Some(Call::Value(n))
-    } else if is_word(name, "count") {
-        Some(Call::Count(n))
-    } else {
-        None
-    }
-}
-
-fn is_word(bytes: &[u8], word: &str) -> bool
-    ensures { result ≡ bytes_eq bytes.now word.now }
-{
-    bytes == word.as_bytes()
 }

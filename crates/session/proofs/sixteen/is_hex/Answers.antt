@@ -1,4 +1,4 @@
-use Rattle.std.proofs.Common.{◌≡◌, ◌%◌, ◌&&◌, length, eqb, ap, ◌∙◌, sym, rules, tests}
+use Rattle.std.proofs.Common.{◌≡◌, ◌%◌, ◌&&◌, length, ap, ◌∙◌, sym, rules, tests}
 use Rattle.std.proofs.lemmas.Bool.{eq-eqb, ne_eqb}
 use Rattle.std.proofs.lemmas.Iterator.{YieldsList-from_slice}
 use Rattle.std.proofs.lemmas.Iterator.Search.{all_from_yields_List}
