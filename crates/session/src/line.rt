@@ -1,8 +1,7 @@
 // Lines read as calls.
 
-ghost use Rattle.std.specs.Prelude.{◌≡◌, true, [], ◌∷◌, is_some, vec_items, MatchResult};
+ghost use Rattle.std.specs.Prelude.{◌≡◌, true, is_some, vec_items, MatchResult};
 ghost use Rattle.std.specs.Option.{option_map};
-ghost use Rattle.std.specs.Str.{bytes_eq};
 ghost use Rattle.session.specs.Calls.{number_in, call_named, call_of};
 ghost use Rattle.session.specs.Lines.{opened};
 
