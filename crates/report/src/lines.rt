@@ -44,7 +44,10 @@ pub(crate) fn add_questions(text: &mut String, sheet: &AcceptedSheet) -> Result<
 {
     for i in 0..sheet.count(8).unwrap_or(0) {
         match sheet.question(i) {
-            Some(Question { node }) => writeln!(text, "question {i} asks whether node {node} holds")?,
+            Some(Question { node }) => writeln!(
+                text,
+                "question {i} asks whether node {node} holds"
+            )?,
             None => writeln!(text, "question {i} is blank")?,
         }
     }
