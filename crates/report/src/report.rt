@@ -1,6 +1,6 @@
 // The whole of what is said of some bytes.
 
-ghost use Rattle.std.specs.Prelude.{◌≡◌, List, length, IfOk, string_bytes};
+ghost use Rattle.std.specs.Prelude.{◌≡◌, ◌++◌, length, IfOk, string_bytes, OnOk};
 ghost use Rattle.reader.specs.Means.{rows_held};
 ghost use Rattle.sheet.specs.Sections.{bytes_of};
 ghost use Rattle.report.specs.Text.{refused_text, rewritten_line, contents_text, accepted_text, report_of};
@@ -41,18 +41,23 @@ fn report_of_refusal(heap: Global, f: Refusal) -> Result<String, AllocError>
     format!(in heap; "{refused}\nsection {section} ({name}), row {row}: {reason}\n")
 }
 
-// Writes the rig's sheet out again, and says that the bytes are the same.
-fn line_of_rewriting<R: Rig>(heap: Global, rig: &R, bytes: &[u8]) -> Result<String, AllocError>
+// Writes the rig's sheet out again, and adds that the bytes are the same.
+fn add_rewriting<R: Rig>(
+    text: &mut String,
+    heap: Global,
+    rig: &R,
+    bytes: &[u8],
+) -> Result<(), AllocError>
     requires fits { R.Rig.fits rig.now }
     requires same { bytes_of (R.Rig.rows rig.now) ≡ bytes.now }
-    ensures { IfOk result (λ t. string_bytes t ≡ rewritten_line (length bytes.now)) }
+    ensures { OnOk result (string_bytes text.new ≡ string_bytes text.old ++ rewritten_line (length bytes.now)) }
 {
     let n = bytes.len();
     let mut copy = vec![in heap; 0u8; n]?;
     if is_rewritten(rig, bytes, &mut copy) {
-        format!(in heap; "written out again: the same {n} bytes\n")
+        writeln!(text, "written out again: the same {n} bytes")
     } else {
-        String::from_str(heap, "written out again: other bytes\n")
+        writeln!(text, "written out again: other bytes")
     }
 }
 
@@ -75,7 +80,6 @@ fn report_of_sheet(heap: Global, sheet: AcceptedSheet, bytes: &[u8]) -> Result<S
     let Ok(rig) = OpenRig::new(heap, sheet) else {
         return Err(AllocError);
     };
-    let rewriting = line_of_rewriting(heap, &rig, bytes)?;
-    text.push_str(rewriting.as_str())?;
+    add_rewriting(&mut text, heap, &rig, bytes)?;
     Ok(text)
 }

@@ -13,6 +13,9 @@ loop-i-preserved c =
     let was = string_bytes c.loop-i.text in
     let now = string_bytes c.match-component.text in
     elim c.match-component.branch [
-      | in-Some+in_ok-writeln w ↦ line_more start was now (component_text i (Some w.in-Some.field-0)) (component_line s) i c.loop-i.invariant (ap string_bytes w.text-is ∙ w.in_ok-writeln.ensures.bytes) (ap (component_text i) w.in-Some.ensures)
+      | in-Some+in_ok-writeln w ↦
+          let line = component_text i (Some w.in-Some.field-0) in
+          let added : now ≡ was ++ line = ap string_bytes w.text-is ∙ w.in_ok-writeln.ensures.bytes in
+          line_more start was now line (component_line s) i c.loop-i.invariant added (ap (component_text i) w.in-Some.ensures)
       | in_default w ↦ line_more start was now [] (component_line s) i c.loop-i.invariant (ap string_bytes w.text-is ∙ sym (append-nil (string_bytes c.loop-i.text))) (ap (component_text i) w.in_default.ensures)
     ]

@@ -1,4 +1,4 @@
-use Rattle.std.proofs.Common.{◌≡◌, ◌==◌, length, rules, tests, ap, ◌∙◌}
+use Rattle.std.proofs.Common.{◌≡◌, ℕ, ◌==◌, ◌∷◌, List, length, rules, tests, ap, ◌∙◌}
 use Rattle.std.proofs.lemmas.Iterator.{YieldsList}
 use Rattle.std.proofs.lemmas.Iterator.Consumers.{YieldsList-at}
 use Rattle.std.proofs.lemmas.Iterator.Splits.{YieldsList-from_slice_split}
@@ -6,6 +6,7 @@ use Rattle.session.specs.Calls.{words, call_named, call_of}
 use Rattle.session.proofs.Words.{one_more, no_more, name_first, number_more, number_other, number_over, numbers_all}
 use Rattle.session.proofs.line.call_of_line.Given.{iterator-loop-word}
 use Rattle.session.proofs.line.call_of_line.Goals as goal
+use Rattle.session.proofs.line.call_of_line.Goals.{In-Some}
 
 pub loop-word-init : goal.loop-word-init
 loop-word-init c =
@@ -19,17 +20,21 @@ loop-word-init c =
       call = name_first line c.in_ok-name.name.now c.new-numbers.result.items name.0 name.1 c.new-numbers.ensures;
     }
 
+-- the word that comes is the first of those that are left
+next_word : (c : In-Some) → (more : List (List ℕ)) × (c.loop-word.invariant.words ≡ c.in-Some.word.now ∷ more) × YieldsList iterator-loop-word.next_gives (λ x. x.now) c.next-in-loop-word.new.self more
+next_word c = one_more c.next-in-loop-word.new.self c.in-Some.word c.loop-word.invariant.left c.in-Some.ensures.steps
+
 pub returns-in_err-number_in : goal.returns-in_err-number_in
 returns-in_err-number_in c =
     let was = c.loop-word.invariant in
-    let word = one_more c.next-in-loop-word.new.self c.in-Some.word was.left c.in-Some.ensures.steps in
+    let word = next_word (goal.at.returns-in_err-number_in c).In-Some in
     c.from_residual-in_err-number_in.ensures
     ∙ number_other c.in_ok-name.name.now c.loop-word.numbers.items c.in-Some.word.now was.words word.0 (call_of c.args.line.now) word.1 c.in_err-number_in.ensures was.call
 
 pub loop-word-preserved : goal.loop-word-preserved
 loop-word-preserved c =
     let was = c.loop-word.invariant in
-    let word = one_more c.next-in-loop-word.new.self c.in-Some.word was.left c.in-Some.ensures.steps in
+    let word = next_word (goal.at.loop-word-preserved c).In-Some in
     record {
       words = word.0;
       left = word.2;
@@ -40,7 +45,7 @@ loop-word-preserved c =
 pub returns-in_err-ok : goal.returns-in_err-ok
 returns-in_err-ok c =
     let was = c.loop-word.invariant in
-    let word = one_more c.next-in-loop-word.new.self c.in-Some.word was.left c.in-Some.ensures.steps in
+    let word = next_word (goal.at.returns-in_err-ok c).In-Some in
     let three : length c.loop-word.numbers.items ≡ 3 = search rules in
     c.from_residual-in_err-ok.ensures
     ∙ number_over c.in_ok-name.name.now c.loop-word.numbers.items c.in-Some.word.now c.in_ok-number_in.field-0 was.words word.0 (call_of c.args.line.now) three word.1 c.in_ok-number_in.ensures was.call
