@@ -8,7 +8,6 @@ use crate::one_call::cut_bytes;
 use cutting::kinds::QuestionSet;
 use reader::fault::ReadFault;
 use refused::refused_line;
-use sheet::numbers::refusal_number;
 use std::alloc::{AllocError, Global};
 
 // The cut's bytes, or the line of the refusal. The input is a set of questions, two bytes with the low byte first, and
@@ -30,7 +29,7 @@ fn line_of_fault(heap: Global, fault: CutFault) -> Result<Vec<u8>, AllocError>
 {
     match fault {
         CutFault::Reading(ReadFault::Refused(f)) => {
-            line(heap, refusal_number(f.reason), f.section, f.row)
+            line(heap, u8::from(f.reason), f.section, f.row)
         }
         CutFault::Reading(ReadFault::OutOfMemory) => Err(AllocError),
         CutFault::Cutting(f) => line(heap, 14, f.question(), 0),

@@ -1,6 +1,6 @@
 // The cases of a table, each a line `NAME SET SHEET REPLY`.
 
-use session::hex::hex_bytes;
+use session::sixteen::hex_bytes;
 use std::alloc::{AllocError, Global};
 use std::fmt;
 use std::num::ParseIntError;

@@ -1,13 +1,12 @@
 -- What is said of some bytes, in words.
 use Rattle.std.specs.Prelude.{ℕ, zero, suc, List, [], ◌∷◌, ◌++◌, length, Some, None, Ok, Err, codes, decimal, Option, Result, slice_index_or}
-use Rattle.sheet.specs.declared.refusal.Reason.{Reason}
-use Rattle.sheet.specs.declared.refusal.Reason.TheVariants.{EndsEarly, LeftOver, CountNotAllowed, WrongByItself, WrongByReference, Clash, ForbiddenResting}
 use Rattle.sheet.specs.declared.refusal.Refusal.{Refusal}
 use Rattle.sheet.specs.declared.rows.Component.{Component}
 use Rattle.sheet.specs.declared.rows.Question.{Question}
 use Rattle.sheet.specs.Sections.{Sheet, rows, components, questions, bytes_of}
 use Rattle.sheet.specs.Lookup.{component_at, question_at}
 use Rattle.sheet.specs.Accept.{number_of, accept}
+use Rattle.sheet.specs.Words.{reason_text}
 
 -- the names of the sections, and of the place behind them
 abbrev pub section_names : List (List ℕ)
@@ -15,16 +14,6 @@ section_names = codes "components" ∷ codes "data elements" ∷ codes "events" 
 
 abbrev pub section_name : ℕ → List ℕ
 section_name k = slice_index_or section_names k (codes "behind the last section")
-
--- what a reason stands for
-abbrev pub reason_text : Reason → List ℕ
-reason_text EndsEarly = codes "the bytes end early"
-reason_text LeftOver = codes "bytes are left over"
-reason_text CountNotAllowed = codes "the number of rows is not allowed"
-reason_text WrongByItself = codes "a field is wrong by itself"
-reason_text WrongByReference = codes "a field is wrong by what it names"
-reason_text Clash = codes "the row clashes with an earlier one"
-reason_text ForbiddenResting = codes "a node rests on what it must not"
 
 -- the first line on bytes that are refused: the number, the section and the row
 abbrev pub refused_line : Refusal → List ℕ

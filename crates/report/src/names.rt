@@ -1,10 +1,9 @@
-// The names of sections and reasons.
+// The names of sections.
 
 ghost use Rattle.std.specs.Prelude.{◌≡◌};
-ghost use Rattle.report.specs.Text.{section_name, reason_text};
+ghost use Rattle.report.specs.Text.{section_name};
 
-use sheet::refusal::Reason;
-
+// Sections go by their numbers in every public call, and a refusal names the place behind the last one too.
 pub(crate) fn name_of_section(section: usize) -> &'static str
     ensures { result.now ≡ section_name section }
 {
@@ -19,19 +18,5 @@ pub(crate) fn name_of_section(section: usize) -> &'static str
         7 => "settings",
         8 => "questions",
         _ => "behind the last section",
-    }
-}
-
-pub(crate) fn text_of_reason(reason: Reason) -> &'static str
-    ensures { result.now ≡ reason_text reason }
-{
-    match reason {
-        Reason::EndsEarly => "the bytes end early",
-        Reason::LeftOver => "bytes are left over",
-        Reason::CountNotAllowed => "the number of rows is not allowed",
-        Reason::WrongByItself => "a field is wrong by itself",
-        Reason::WrongByReference => "a field is wrong by what it names",
-        Reason::Clash => "the row clashes with an earlier one",
-        Reason::ForbiddenResting => "a node rests on what it must not",
     }
 }

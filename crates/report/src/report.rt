@@ -1,21 +1,20 @@
 // The whole of what is said of some bytes.
 
-ghost use Rattle.std.specs.Prelude.{◌≡◌, List, length, IfOk, string_bytes};
+ghost use Rattle.std.specs.Prelude.{◌≡◌, ◌++◌, length, IfOk, string_bytes, OnOk};
 ghost use Rattle.reader.specs.Means.{rows_held};
 ghost use Rattle.sheet.specs.Sections.{bytes_of};
-ghost use Rattle.report.specs.Text.{refused_line, explained_line, refused_text, rewritten_line, contents_text, accepted_text, report_of};
+ghost use Rattle.report.specs.Text.{refused_text, rewritten_line, contents_text, accepted_text, report_of};
 
-use crate::lines::{Components, Counts, Questions, add_lines};
-use crate::names::{name_of_section, text_of_reason};
+use crate::lines::{add_components, add_counts, add_questions};
+use crate::names::name_of_section;
 use crate::rewrite::is_rewritten;
 use open_rig::open::OpenRig;
 use reader::accepted::AcceptedSheet;
 use reader::fault::ReadFault;
 use reader::read::read;
+use refused::Refused;
 use rig::rig::Rig;
-use sheet::numbers::refusal_number;
 use sheet::refusal::Refusal;
-use sheet::sizes::SECTIONS;
 use std::alloc::{AllocError, Global};
 
 // What is said of the bytes: whether they are accepted, and what is in them or why not.
@@ -29,46 +28,36 @@ pub fn report(heap: Global, bytes: &[u8]) -> Result<String, AllocError>
     }
 }
 
-fn line_of_refusal(heap: Global, f: Refusal) -> Result<String, AllocError>
-    ensures { IfOk result (λ t. string_bytes t ≡ refused_line f) }
-{
-    let number = refusal_number(f.reason);
-    let section = f.section;
-    let row = f.row;
-    format!(in heap; "refused {number} {section} {row}\n")
-}
-
-fn explanation_of_refusal(heap: Global, f: Refusal) -> Result<String, AllocError>
-    ensures { IfOk result (λ t. string_bytes t ≡ explained_line f) }
-{
-    let section = f.section;
-    let name = name_of_section(section);
-    let row = f.row;
-    let reason = text_of_reason(f.reason);
-    format!(in heap; "section {section} ({name}), row {row}: {reason}\n")
-}
-
 fn report_of_refusal(heap: Global, f: Refusal) -> Result<String, AllocError>
     ensures { IfOk result (λ t. string_bytes t ≡ refused_text f) }
 {
-    let mut text = line_of_refusal(heap, f)?;
-    let explanation = explanation_of_refusal(heap, f)?;
-    text.push_str(explanation.as_str())?;
-    Ok(text)
+    let refused = Refused::from(f);
+    let Refusal {
+        reason,
+        section,
+        row,
+    } = f;
+    let name = name_of_section(section);
+    format!(in heap; "{refused}\nsection {section} ({name}), row {row}: {reason}\n")
 }
 
-// Writes the rig's sheet out again, and says that the bytes are the same.
-fn line_of_rewriting<R: Rig>(heap: Global, rig: &R, bytes: &[u8]) -> Result<String, AllocError>
+// Writes the rig's sheet out again, and adds that the bytes are the same.
+fn add_rewriting<R: Rig>(
+    text: &mut String,
+    heap: Global,
+    rig: &R,
+    bytes: &[u8],
+) -> Result<(), AllocError>
     requires fits { R.Rig.fits rig.now }
     requires same { bytes_of (R.Rig.rows rig.now) ≡ bytes.now }
-    ensures { IfOk result (λ t. string_bytes t ≡ rewritten_line (length bytes.now)) }
+    ensures { OnOk result (string_bytes text.new ≡ string_bytes text.old ++ rewritten_line (length bytes.now)) }
 {
     let n = bytes.len();
     let mut copy = vec![in heap; 0u8; n]?;
     if is_rewritten(rig, bytes, &mut copy) {
-        format!(in heap; "written out again: the same {n} bytes\n")
+        writeln!(text, "written out again: the same {n} bytes")
     } else {
-        String::from_str(heap, "written out again: other bytes\n")
+        writeln!(text, "written out again: other bytes")
     }
 }
 
@@ -77,19 +66,9 @@ fn contents_of_sheet(heap: Global, sheet: &AcceptedSheet) -> Result<String, Allo
     ensures { IfOk result (λ t. string_bytes t ≡ contents_text (rows_held sheet.now)) }
 {
     let mut text = String::from_str(heap, "accepted\n")?;
-    add_lines(&mut text, heap, &Counts { sheet }, SECTIONS)?;
-    add_lines(
-        &mut text,
-        heap,
-        &Components { sheet },
-        sheet.count(0).unwrap_or(0),
-    )?;
-    add_lines(
-        &mut text,
-        heap,
-        &Questions { sheet },
-        sheet.count(8).unwrap_or(0),
-    )?;
+    add_counts(&mut text, sheet)?;
+    add_components(&mut text, sheet)?;
+    add_questions(&mut text, sheet)?;
     Ok(text)
 }
 
@@ -101,7 +80,6 @@ fn report_of_sheet(heap: Global, sheet: AcceptedSheet, bytes: &[u8]) -> Result<S
     let Ok(rig) = OpenRig::new(heap, sheet) else {
         return Err(AllocError);
     };
-    let rewriting = line_of_rewriting(heap, &rig, bytes)?;
-    text.push_str(rewriting.as_str())?;
+    add_rewriting(&mut text, heap, &rig, bytes)?;
     Ok(text)
 }

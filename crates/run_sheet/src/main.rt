@@ -5,20 +5,11 @@
 use opening::open::open_by_line;
 use rig::rig::Rig;
 use session::perform::reply_to_line;
-use session::reply::{Reply, reply_text};
-use std::alloc::Global;
 use std::io::{BufRead, BufReader, Lines};
-
-fn print_reply(rt: &impl Print, heap: Global, reply: Reply) -> anyhow::Result<()> {
-    let text = reply_text(heap, reply)?;
-    println!(rt; "{text}")?;
-    Ok(())
-}
 
 // Replies to each line that is still to come.
 fn run<R: Rig, B: BufRead + Drop>(
     rt: &impl Print,
-    heap: Global,
     rig: &mut R,
     lines: Lines<B>,
 ) -> anyhow::Result<()>
@@ -26,7 +17,7 @@ fn run<R: Rig, B: BufRead + Drop>(
 {
     for line in lines {
         let reply = reply_to_line(rig, line?.as_bytes());
-        print_reply(rt, heap, reply)?;
+        println!(rt; "{reply}")?;
     }
     Ok(())
 }
@@ -38,7 +29,8 @@ fn main(rt: HostRuntime) -> anyhow::Result<()> {
         return Ok(());
     };
     match open_by_line(heap, first?.as_bytes())? {
-        Ok(mut rig) => run(&rt, heap, &mut rig, lines),
-        Err(reply) => print_reply(&rt, heap, reply),
+        Ok(mut rig) => run(&rt, &mut rig, lines)?,
+        Err(reply) => println!(rt; "{reply}")?,
     }
+    Ok(())
 }

@@ -1,4 +1,4 @@
 pub mod Digits
 pub mod Words
 pub mod Numbers
-pub mod Opened
+pub mod Names

@@ -1,54 +1,49 @@
--- Words read as numbers digit by digit.
-use Rattle.std.proofs.Common.{◌≡◌, ℕ, ◌+◌, ◌-◌, ◌*◌, ◌^◌, ◌<◌, ◌≤◌, true, false, cond, ◌&&◌, ltb, List, [], ◌∷◌, length, get_or, drop, Some, None, Option, sym, ap, ◌∙◌, arith}
-use Rattle.std.proofs.lemmas.List.{drop_more, drop_all}
-use Rattle.std.proofs.lemmas.Bool.{and_right, le-ltb, lt-ltb}
-use Rattle.std.proofs.lemmas.Bool.Decides.{nat_tests}
-use Rattle.std.specs.Str.Parse.{digits_value_after}
-use Rattle.std.specs.Char.{is_ascii_digit, digit_value as digitValue}
-use Rattle.std.specs.Str.{all_ascii_digits}
+-- Words read as numbers.
+use Rattle.std.proofs.Common.{◌≡◌, ℕ, ◌^◌, ◌<◌, true, false, cond, ◌&&◌, ltb, List, [], ◌∷◌, length, Some, None, Result, Ok, Err, sym, refl, ap, ◌∙◌}
+use Rattle.std.proofs.lemmas.Bool.{lt-ltb, and_parts, and_right, false_from_ne_true}
+use Rattle.std.proofs.lemmas.Bool.Decides.{Decides-ltb}
+use Rattle.std.proofs.lemmas.Str.{IsUtf8-from_ascii}
+use Rattle.std.proofs.lemmas.Str.Parse.{IsNumeralModel, numerals_by_value, tells_all_ascii_digits, parse_digits}
+use Rattle.std.proofs.lemmas.Fmt.{IsAscii-from_digits}
+use Rattle.std.specs.Char.{is_ascii_digit}
+use Rattle.std.specs.List.{list_all}
+use Rattle.std.specs.Result.{result_ok, OkIff}
+use Rattle.std.specs.Str.{all_ascii_digits, IsUtf8}
+use Rattle.std.specs.Str.Parse.{digits_value, ParsesUnsigned}
 use Rattle.session.specs.Calls.{number_in}
 
--- the number that digits write behind those of n
-abbrev pub number_after : ℕ → List ℕ → Option ℕ
-number_after n cs = cond (all_ascii_digits cs && ltb (digits_value_after 10 n cs) (2 ^ 64)) (Some (digits_value_after 10 n cs)) None
+pub digits_all : (w : List ℕ) → list_all is_ascii_digit w ≡ all_ascii_digits w
+digits_all [] = refl
+digits_all (c ∷ cs) = ap (λ t. is_ascii_digit c && t) (digits_all cs)
 
-after_more : (n c : ℕ) (cs : List ℕ) → is_ascii_digit c ≡ true → number_after n (c ∷ cs) ≡ number_after (n * 10 + digitValue c) cs
-after_more n c cs e = ap (λ t. cond ((t && all_ascii_digits cs) && ltb (digits_value_after 10 (n * 10 + digitValue c) cs) (2 ^ 64)) (Some (digits_value_after 10 (n * 10 + digitValue c) cs)) None) e
+-- decimal digits and the number that they write
+numerals : IsNumeralModel (λ ds. all_ascii_digits ds ≡ true) (digits_value 10)
+numerals = numerals_by_value (λ ds. all_ascii_digits ds ≡ true) tells_all_ascii_digits
 
-after_other : (n c : ℕ) (cs : List ℕ) → is_ascii_digit c ≡ false → number_after n (c ∷ cs) ≡ None
-after_other n c cs e = ap (λ t. cond ((t && all_ascii_digits cs) && ltb (digits_value_after 10 (n * 10 + digitValue c) cs) (2 ^ 64)) (Some (digits_value_after 10 (n * 10 + digitValue c) cs)) None) e
+pub digits_are_text : (w : List ℕ) → all_ascii_digits w ≡ true → IsUtf8 w
+digits_are_text w all = IsUtf8-from_ascii w (IsAscii-from_digits w (numerals.to w all))
 
-not_less : (n : ℕ) (cs : List ℕ) → n ≤ digits_value_after 10 n cs
-not_less n [] = omega arith
-not_less n (c ∷ cs) = omega (arith, not_less (n * 10 + digitValue c) cs)
+-- a word with a byte that is no digit
+pub number_none : (w : List ℕ) → all_ascii_digits w ≡ false → number_in w ≡ None
+number_none w other =
+    let small = ltb (digits_value 10 w) (2 ^ 64) in
+    ap (λ t. cond t (Some (digits_value 10 w)) None) (and_right (ltb 0 (length w)) (all_ascii_digits w && small) (ap (λ t. t && small) other))
 
-after_large : (n : ℕ) (cs : List ℕ) → 2 ^ 64 ≤ n → number_after n cs ≡ None
-after_large n cs large =
-    let over : (all_ascii_digits cs && ltb (digits_value_after 10 n cs) (2 ^ 64)) ≡ false = and_right (all_ascii_digits cs) (ltb (digits_value_after 10 n cs) (2 ^ 64)) (le-ltb (digits_value_after 10 n cs) (2 ^ 64) (omega (arith, not_less n cs))) in
-    ap (λ t. cond t (Some (digits_value_after 10 n cs)) None) over
+read : {E : Type 0} (w : List ℕ) (r : Result ℕ E) → all_ascii_digits w ≡ true → OkIff r ((0 < length w) × (digits_value 10 w < 2 ^ 64)) (digits_value 10 w) → result_ok r ≡ number_in w
+read w (Ok x) all h =
+    let some = lt-ltb 0 (length w) h.0.0 in
+    let small = lt-ltb (digits_value 10 w) (2 ^ 64) h.0.1 in
+    ap Some h.1 ∙ sym (λ k. cond (some k && (all k && small k)) (Some (digits_value 10 w)) None)
+read w (Err e) all h =
+    let some = ltb 0 (length w) in
+    let small = ltb (digits_value 10 w) (2 ^ 64) in
+    let not : (some && (all_ascii_digits w && small)) ≡ false =
+    false_from_ne_true (some && (all_ascii_digits w && small))
+    (λ t. let p = and_parts some (all_ascii_digits w && small) t in
+    let q = and_parts (all_ascii_digits w) small p.1 in
+    h ((Decides-ltb 0 (length w)).0 p.0, (Decides-ltb (digits_value 10 w) (2 ^ 64)).0 q.1)) in
+    sym (ap (λ t. cond t (Some (digits_value 10 w)) None) not)
 
-after_none : (n : ℕ) → n < 2 ^ 64 → number_after n [] ≡ Some n
-after_none n small = ap (λ t. cond t (Some n) None) (lt-ltb n (2 ^ 64) small)
-
-pub number_start : (w : List ℕ) → 0 < length w → number_in w ≡ number_after 0 w
-number_start w some = ap (λ t. cond (t && (all_ascii_digits w && ltb (digits_value_after 10 0 w) (2 ^ 64))) (Some (digits_value_after 10 0 w)) None) (lt-ltb 0 (length w) some)
-
-digit_value : (c : ℕ) → is_ascii_digit c ≡ true → digitValue c ≡ c - 48
-digit_value c e = grind (arith, nat_tests)
-
--- one digit read
-pub digit_more : (w : List ℕ) (i n d : ℕ) → i < length w → true ≡ is_ascii_digit (get_or w i 0) → d ≡ get_or w i 0 - 48 → number_in w ≡ number_after n (drop i w) → number_in w ≡ number_after (n * 10 + d) (drop (i + 1) w)
-digit_more w i n d within digit e inv =
-    let c = get_or w i 0 in
-    let value : n * 10 + digitValue c ≡ n * 10 + d = ap (λ k. n * 10 + k) (digit_value c (sym digit) ∙ sym e) in
-    inv ∙ ap (number_after n) (drop_more w i 0 within) ∙ after_more n c (drop (i + 1) w) (sym digit) ∙ ap (λ k. number_after k (drop (i + 1) w)) value
-
--- a digit that makes the number too large
-pub digit_over : (w : List ℕ) (i n d : ℕ) → i < length w → true ≡ is_ascii_digit (get_or w i 0) → d ≡ get_or w i 0 - 48 → 2 ^ 64 ≤ n * 10 + d → number_in w ≡ number_after n (drop i w) → number_in w ≡ None
-digit_over w i n d within digit e large inv = digit_more w i n d within digit e inv ∙ after_large (n * 10 + d) (drop (i + 1) w) large
-
-pub digit_other : (w : List ℕ) (i n : ℕ) → i < length w → false ≡ is_ascii_digit (get_or w i 0) → number_in w ≡ number_after n (drop i w) → number_in w ≡ None
-digit_other w i n within other inv = inv ∙ ap (number_after n) (drop_more w i 0 within) ∙ after_other n (get_or w i 0) (drop (i + 1) w) (sym other)
-
-pub digits_all : (w : List ℕ) (i n : ℕ) → length w ≤ i → n < 2 ^ 64 → number_in w ≡ number_after n (drop i w) → number_in w ≡ Some n
-digits_all w i n end small inv = inv ∙ ap (number_after n) (drop_all i w end) ∙ after_none n small
+-- what `parse` gives for decimal digits
+pub number_parsed : {E : Type 0} (w : List ℕ) (r : Result ℕ E) → all_ascii_digits w ≡ true → ParsesUnsigned 64 10 w r → result_ok r ≡ number_in w
+number_parsed w r all h = read w r all (parse_digits numerals 64 w r h all)

@@ -1,21 +1,16 @@
 -- What a line of a session asks.
 use Rattle.std.specs.Prelude.{ℕ, ◌^◌, cond, ◌&&◌, List, [], ◌∷◌, length, Some, None, codes, Option, ◌==◌, nat_lt}
 use Rattle.std.specs.Option.{option_map, option_flatten}
+use Rattle.std.specs.List.{slice_split}
 use Rattle.std.specs.Str.Parse.{digits_value}
 use Rattle.std.specs.Str.{all_ascii_digits, bytes_eq}
 use Rattle.session.specs.Pieces.{in_front}
 use Rattle.session.specs.declared.call.Call.{Call}
 use Rattle.session.specs.declared.call.Call.TheVariants.{Alone, Pair, Home, Answer, Mode, Value, Count, Byte}
 
--- a byte in front of the first of some words
-abbrev pub onto_first : ℕ → List (List ℕ) → List (List ℕ)
-onto_first c [] = (c ∷ []) ∷ []
-onto_first c (w ∷ ws) = (c ∷ w) ∷ ws
-
 -- the words between the blanks, of which there is one more than there are blanks
 abbrev pub words : List ℕ → List (List ℕ)
-words [] = [] ∷ []
-words (c ∷ cs) = cond (c == 32) ([] ∷ words cs) (onto_first c (words cs))
+words line = slice_split (λ c. c == 32) line
 
 -- the number that a word writes in base ten, where it is below 2 ^ 64
 abbrev pub number_in : List ℕ → Option ℕ

@@ -1,14 +1,7 @@
--- Lines that are cut at a blank.
-use Rattle.std.specs.Prelude.{ℕ, cond, List, [], ◌∷◌, Some, None, codes, Option}
-use Rattle.std.specs.Borrow.{Bor}
+-- Lines that open bytes.
+use Rattle.std.specs.Prelude.{ℕ, cond, List, [], ◌∷◌, None, codes, Option}
 use Rattle.std.specs.Str.{bytes_eq}
-use Rattle.session.specs.Calls.{words}
 use Rattle.session.specs.Sixteen.{hex_of}
-
--- the words of what is behind a blank, if there is one
-abbrev pub words_behind : Option (Bor (List ℕ)) → List (List ℕ)
-words_behind None = []
-words_behind (Some rest) = words rest.now
 
 -- The bytes that a line opens: it is the word open, a blank and the bytes in base sixteen.
 abbrev pub opened : List ℕ → Option (List ℕ)

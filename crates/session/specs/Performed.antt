@@ -1,7 +1,7 @@
 -- What a call of a session does to a rig, and what is said of it.
 use Rattle.std.specs.Prelude.{ℕ, Bool, List, ℤ, Some, None, Ok, Err, Option, Result}
 use Rattle.running.specs.States.{State, start_state}
-use Rattle.running.specs.Steps.{mode_at, value_at, step_reply, step_state, step_number, step_names, no_question_number, answer_of}
+use Rattle.running.specs.Steps.{mode_at, value_at, step_reply, step_state, answer_of}
 use Rattle.running.specs.declared.kinds.NoQuestion.{NoQuestion}
 use Rattle.running.specs.declared.kinds.Step.TheVariants.{Alone as ByOne, Pair as ByTwo}
 use Rattle.running.specs.declared.kinds.StepRefusal.{StepRefusal}
@@ -11,15 +11,15 @@ use Rattle.session.specs.Calls.{call_of}
 use Rattle.session.specs.declared.call.Call.{Call}
 use Rattle.session.specs.declared.call.Call.TheVariants.{Alone, Pair, Home, Answer, Mode, Value, Count, Byte}
 use Rattle.session.specs.declared.reply.Reply.{Reply}
-use Rattle.session.specs.declared.reply.Reply.TheVariants.{Made, Refused, Truth, Nothing, NotACall, Count as ACount, Value as AValue}
+use Rattle.session.specs.declared.reply.Reply.TheVariants.{Made, Refused, Truth, NoQuestion as ANoQuestion, Nothing, NotACall, Count as ACount, Value as AValue}
 
 abbrev pub step_said : Result (Unit {0}) StepRefusal → Reply
 step_said (Ok u) = Made
-step_said (Err f) = Refused (step_number f) (step_names f)
+step_said (Err f) = Refused f
 
 abbrev pub answer_said : Result Bool NoQuestion → Reply
 answer_said (Ok truth) = Truth truth
-answer_said (Err f) = Refused (no_question_number f) f.question
+answer_said (Err f) = ANoQuestion f
 
 abbrev pub count_said : Option ℕ → Reply
 count_said (Some n) = ACount n

@@ -1,15 +1,21 @@
 -- What is said of a call.
 use Rattle.std.specs.Prelude.{ℕ, cond, List, ◌++◌, codes, decimal}
 use Rattle.std.specs.Fmt.{signed_decimal}
+use Rattle.running.specs.Steps.{step_number, step_names, no_question_number}
 use Rattle.sheet.specs.Accept.{number_of}
 use Rattle.session.specs.declared.reply.Reply.{Reply}
-use Rattle.session.specs.declared.reply.Reply.TheVariants.{Made, Refused, Truth, Count, Value, Nothing, NotACall, NoSheet}
+use Rattle.session.specs.declared.reply.Reply.TheVariants.{Made, Refused, Truth, NoQuestion, Count, Value, Nothing, NotACall, NoSheet}
+
+-- the number of a refusal, and what it names
+abbrev pub numbered : (number name : ℕ) → List ℕ
+numbered n a = codes "refused " ++ (decimal n ++ (codes " " ++ decimal a))
 
 -- The line for a reply; a number is written in base ten, a negative one with a minus.
 abbrev pub reply_line : Reply → List ℕ
 reply_line Made = codes "made"
-reply_line (Refused number transition) = codes "refused " ++ (decimal number ++ (codes " " ++ decimal transition))
+reply_line (Refused f) = numbered (step_number f) (step_names f)
 reply_line (Truth truth) = cond truth (codes "true") (codes "false")
+reply_line (NoQuestion f) = numbered (no_question_number f) f.question
 reply_line (Count n) = decimal n
 reply_line (Value n) = signed_decimal n
 reply_line Nothing = codes "nothing"

@@ -6,7 +6,6 @@
 use opening::open::open_by_line;
 use rig::rig::Rig;
 use session::perform::reply_to_line;
-use session::reply::reply_text;
 use std::alloc::Global;
 use std::io::{BufRead, BufReader};
 
@@ -22,7 +21,7 @@ fn first_wrong<'a, R: Rig>(
         let Some((call, expected)) = part.split_once('=') else {
             return Ok(Some(part));
         };
-        let reply = reply_text(heap, reply_to_line(rig, call.as_bytes()))?;
+        let reply = reply_to_line(rig, call.as_bytes()).to_string(heap)?;
         if reply.as_str() != expected {
             return Ok(Some(part));
         }
@@ -35,12 +34,8 @@ fn run_session<'a>(heap: Global, open: &str, script: &'a str) -> anyhow::Result<
     match open_by_line(heap, open.as_bytes())? {
         Ok(mut rig) => first_wrong(heap, &mut rig, script),
         Err(reply) => {
-            let text = reply_text(heap, reply)?;
-            Ok(if text.as_str() == script {
-                None
-            } else {
-                Some(script)
-            })
+            let text = reply.to_string(heap)?;
+            Ok((text.as_str() != script).then_some(script))
         }
     }
 }

@@ -9,3 +9,4 @@ pub mod Sections
 pub mod Tables
 pub mod Tries
 pub mod Typed
+pub mod Words

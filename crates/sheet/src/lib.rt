@@ -2,7 +2,6 @@
 #![tactic(auto)]
 
 pub mod decode;
-pub mod numbers;
 pub mod refusal;
 pub mod rows;
 pub mod sizes;

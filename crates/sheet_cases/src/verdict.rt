@@ -3,7 +3,6 @@
 ghost use Rattle.std.specs.Prelude.{◌≡◌};
 ghost use Rattle.sheet.specs.Accept.{number_of};
 
-use sheet::numbers::refusal_number;
 use sheet::refusal::Refusal;
 use std::fmt;
 
@@ -28,7 +27,7 @@ impl Verdict {
             row,
         } = refusal;
         Verdict::Refused {
-            number: refusal_number(reason),
+            number: u8::from(reason),
             section,
             row,
         }

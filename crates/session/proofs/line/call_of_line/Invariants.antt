@@ -1,11 +1,13 @@
-use Rattle.std.proofs.Common.{◌≡◌, ◌≤◌, ◌++◌, length, take}
-use Rattle.std.specs.Option.{option_map}
-use Rattle.session.specs.Calls.{numbers_in, call_with, call_of}
-use Rattle.session.specs.Lines.{words_behind}
+use Rattle.std.proofs.Common.{◌≡◌, ℕ, List}
+use Rattle.std.proofs.lemmas.Iterator.{YieldsList}
+use Rattle.session.specs.Calls.{call_of}
+use Rattle.session.proofs.Words.{call_behind}
 use Rattle.session.proofs.line.call_of_line.Given as goal
 
-abbrev pub invariant-loop-left : goal.invariant-loop-left
-invariant-loop-left l = (call_of l.line ≡ call_with l.name (option_map (λ ns. take l.count l.numbers ++ ns) (numbers_in (words_behind l.left)))) × (l.count ≤ 3) × (length l.numbers ≡ 3)
-
-abbrev pub decreases-loop-left : goal.decreases-loop-left
-decreases-loop-left l = length (words_behind l.left)
+abbrev pub invariant-loop-word : goal.invariant-loop-word
+invariant-loop-word l =
+    record {
+      words : List (List ℕ);
+      left : YieldsList goal.iterator-loop-word.next_gives (λ x. x.now) l.word-iterator words;
+      call : call_of l.line ≡ call_behind l.name l.numbers.items words;
+    }

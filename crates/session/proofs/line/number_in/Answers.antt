@@ -1,30 +1,30 @@
-use Rattle.std.proofs.Common.{◌≡◌, ◌+◌, ◌*◌, drop, sym, ap, ◌∙◌, arith, rules}
-use Rattle.session.proofs.Numbers.{number_after, digit_more, digit_over, digit_other, digits_all, number_start}
+use Rattle.std.proofs.Common.{◌≡◌, sym, ◌∙◌, rules, tests}
+use Rattle.std.proofs.lemmas.Iterator.{YieldsList-from_slice}
+use Rattle.std.proofs.lemmas.Iterator.Search.{all_from_yields_List}
+use Rattle.std.specs.Char.{is_ascii_digit}
+use Rattle.std.specs.Str.{all_ascii_digits}
+use Rattle.session.proofs.Numbers.{digits_all, digits_are_text, number_none, number_parsed}
 use Rattle.session.proofs.line.number_in.Goals as goal
+use Rattle.session.proofs.line.number_in.Goals.{After-all}
 
-pub loop-c-init : goal.loop-c-init
-loop-c-init c = (number_start c.args.word.now (search rules), omega arith)
+digits_tested : (c : After-all) → c.all.result ≡ all_ascii_digits c.args.word.now
+digits_tested c =
+    let word = c.args.word.now in
+    all_from_yields_List is_ascii_digit _ _ c.all.result c.all.ensures.ran (YieldsList-from_slice word cc) (λ x b q k. search (rules, tests))
+    ∙ digits_all word
 
-pub returns-then-not-is_ascii_digit : goal.returns-then-not-is_ascii_digit
-returns-then-not-is_ascii_digit c = sym (digit_other c.args.word.now c.loop-c.c-index c.loop-c.number c.loop-c-test.true c.if-not-is_ascii_digit.ensures.value c.loop-c.invariant.0)
+pub returns-then-not-all : goal.returns-then-not-all
+returns-then-not-all c =
+    sym (number_none c.args.word.now (sym (digits_tested (goal.at.returns-then-not-all c).After-all) ∙ c.if-not-all.true))
 
-pub returns-in_err-checked_mul : goal.returns-in_err-checked_mul
-returns-in_err-checked_mul c =
-    c.from_residual.ensures
-    ∙ sym (digit_over c.args.word.now c.loop-c.c-index c.loop-c.number c.from-digit.result c.loop-c-test.true c.if-not-is_ascii_digit.ensures.value c.from-digit.ensures (omega (arith, c.in_err-checked_mul.ensures)) c.loop-c.invariant.0)
-
-pub returns-in_err-number : goal.returns-in_err-number
-returns-in_err-number c =
-    c.from_residual-in_err-number.ensures
-    ∙ sym (digit_over c.args.word.now c.loop-c.c-index c.loop-c.number c.from-digit.result c.loop-c-test.true c.if-not-is_ascii_digit.ensures.value c.from-digit.ensures (omega (arith, c.in_err-number.ensures, c.in_ok-checked_mul.ensures)) c.loop-c.invariant.0)
-
-pub loop-c-preserved : goal.loop-c-preserved
-loop-c-preserved c =
-    let sum : c.loop-c.number * 10 + c.from-digit.result ≡ c.in_ok-number.number = omega (arith, c.in_ok-number.ensures, c.in_ok-checked_mul.ensures) in (
-      digit_more c.args.word.now c.loop-c.c-index c.loop-c.number c.from-digit.result c.loop-c-test.true c.if-not-is_ascii_digit.ensures.value c.from-digit.ensures c.loop-c.invariant.0
-          ∙ ap (λ n. number_after n (drop (c.loop-c.c-index + 1) c.args.word.now)) sum,
-      omega (arith, c.in_ok-number.ensures),
-    )
+pub returns-in_err-ok : goal.returns-in_err-ok
+returns-in_err-ok c =
+    let all = sym (digits_tested (goal.at.returns-in_err-ok c).After-all) ∙ c.if-not-all.false in
+    let text = digits_are_text c.args.word.now all in
+    search rules
 
 pub returns : goal.returns
-returns c = sym (digits_all c.args.word.now c.loop-c.c-index c.loop-c.number c.loop-c-test.false c.loop-c.invariant.1 c.loop-c.invariant.0)
+returns c =
+    let all = sym (digits_tested (goal.at.returns c).After-all) ∙ c.if-not-all.false in
+    let same : c.in_ok-ok.field-0.now ≡ c.args.word.now = search rules in
+    c.ok-2.ensures.value ∙ number_parsed c.args.word.now c.parse.result all (rw same at c.parse.ensures.value.0)
