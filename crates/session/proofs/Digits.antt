@@ -1,141 +1,82 @@
--- Digits in base sixteen: the crate `hex` reads and writes them as the definitions say.
-use Rattle.std.proofs.Common.{◌≡◌, ℕ, zero, suc, ◌+◌, ◌*◌, ◌/◌, ◌%◌, ◌<◌, Bool, true, false, cond, ◌&&◌, ltb, eqb, inl, inr, List, [], ◌∷◌, length, is_some, slice_index, Some, None, Option, Result, Ok, Err, sym, refl, ap, ◌∙◌, arith, MatchResult}
-use Rattle.std.proofs.lemmas.Bool.{and_parts, cases_lt, eqb-true}
-use Rattle.std.specs.Option.{option_map}
+-- Digits in base sixteen that are written, and read again.
+use Rattle.std.proofs.Common.{◌≡◌, ℕ, ◌+◌, ◌-◌, ◌*◌, ◌/◌, ◌%◌, ◌<◌, ◌≤◌, Bool, true, cond, ◌&&◌, ltb, List, [], ◌∷◌, ◌++◌, length, get_or, take, drop, is_some, Some, None, Option, sym, refl, ap, ◌∙◌, append_assoc, div-add-mod', arith, w8, Fits}
+use lib.Utf8.{encode}
+use Rattle.std.proofs.lemmas.List.{take_rest, drop_more}
+use Rattle.std.proofs.lemmas.Bool.{lt-ltb, and_from, false≢true}
+use Rattle.std.proofs.lemmas.Str.{digit_value-digit_char, encode_ascii}
 use Rattle.std.proofs.lemmas.Bool.Decides.{nat_tests}
-use Rattle.std.specs.Char.{digit_char, digit_value, is_ascii_hexdigit}
-use Rattle.std.specs.List.{list_all, AllByRecursion}
-use Rattle.std.specs.Result.{result_ok}
-use Rattle.hex.specs.Hex.{IsBytes, decode_pairs, decode_sized, digit_or_error, encode_lower, encode_with, hex_digit_value, lower_digits, pair_value, ◌>>=◌}
-use Rattle.hex.specs.declared.error.FromHexError.{FromHexError}
-use Rattle.hex.proofs.HexLemmas.{IsDigits-lower_digits, decode_pairs-encode_with}
+use Rattle.std.specs.Option.{option_map}
+use Rattle.std.specs.Char.{digit_char}
 use Rattle.session.specs.Pieces.{in_front}
 use Rattle.session.specs.Sixteen.{byte_of, hex_of, hex_text, HexReadsBack}
 
--- a digit as it is read
-abbrev read : ℕ → Option ℕ
-read c = cond (ltb (digit_value c) 16) (Some (digit_value c)) None
+-- a digit that is read is below sixteen
+pub digit_small : (x d : ℕ) → Some d ≡ cond (ltb x 16) (Some x) None → d < 16
+digit_small x d e = grind (arith, nat_tests)
 
-digit_read : (c : ℕ) → hex_digit_value c ≡ read c
-digit_read c = grind (arith, nat_tests)
+-- the byte of two values, where each is below sixteen
+abbrev byte_of_values : ℕ → ℕ → Option ℕ
+byte_of_values x y = cond (ltb x 16 && ltb y 16) (Some (x * 16 + y)) None
 
--- the byte of two digits that are there
-abbrev both : Option ℕ → Option ℕ → Option ℕ
-both None y = None
-both (Some x) None = None
-both (Some x) (Some y) = Some (x * 16 + y)
+values_small : (x y b : ℕ) → x < 16 → y < 16 → x * 16 + y ≡ b → byte_of_values x y ≡ Some b
+values_small x y b small-x small-y e =
+    let both : (ltb x 16 && ltb y 16) ≡ true = and_from (ltb x 16) (ltb y 16) (lt-ltb x 16 small-x) (lt-ltb y 16 small-y) in
+    ap (λ t. cond t (Some (x * 16 + y)) None) both ∙ ap Some e
 
-both_tests : (p q : Bool) (x y : ℕ) → both (cond p (Some x) None) (cond q (Some y) None) ≡ cond (p && q) (Some (x * 16 + y)) None
-both_tests false q x y = refl
-both_tests true false x y = refl
-both_tests true true x y = refl
-
-both_results : (x y : Option ℕ) (h l i j : ℕ) → result_ok (digit_or_error h i x >>= (λ a. digit_or_error l j y >>= (λ b. Ok (a * 16 + b)))) ≡ both x y
-both_results None y h l i j = refl
-both_results (Some x) None h l i j = refl
-both_results (Some x) (Some y) h l i j = refl
-
-pair_read : (h l i : ℕ) → result_ok (pair_value h l i) ≡ byte_of h l
-pair_read h l i =
-    both_results (hex_digit_value h) (hex_digit_value l) h l i (i + 1)
-    ∙ (λ k. both (digit_read h k) (digit_read l k))
-    ∙ both_tests (ltb (digit_value h) 16) (ltb (digit_value l) 16) (digit_value h) (digit_value l)
-
-first_read : (r : Result ℕ FromHexError) (rs : Result (List ℕ) FromHexError) → result_ok (r >>= (λ b. rs >>= (λ bs. Ok (b ∷ bs)))) ≡ in_front (result_ok r) (result_ok rs)
-first_read (Err e) rs = refl
-first_read (Ok b) (Err e) = refl
-first_read (Ok b) (Ok bs) = refl
-
--- pairs of digits are read as the definition says
-pub pairs_read : (i : ℕ) (text : List ℕ) → result_ok (decode_pairs i text) ≡ hex_of text
-unfolding decode_pairs
-pairs_read i [] = refl
-pairs_read i (h ∷ []) = refl
-pairs_read i (h ∷ l ∷ more) =
-    first_read (pair_value h l i) (decode_pairs (i + 2) more) ∙ (λ k. in_front (pair_read h l i k) (pairs_read (i + 2) more k))
-
-digit_test : (c : ℕ) → is_ascii_hexdigit c ≡ ltb (digit_value c) 16
-digit_test c = grind (arith, nat_tests)
-
-in_front_tests : (p q : Bool) (x : ℕ) (bs : Option (List ℕ)) → is_some (in_front (cond (p && q) (Some x) None) bs) ≡ (p && (q && is_some bs))
-in_front_tests false q x bs = refl
-in_front_tests true false x bs = refl
-in_front_tests true true x None = refl
-in_front_tests true true x (Some bs) = refl
-
-and_inside : (e p q t : Bool) → (e && (p && (q && t))) ≡ (p && (q && (e && t)))
-and_inside true p q t = refl
-and_inside false false q t = refl
-and_inside false true false t = refl
-and_inside false true true t = refl
-
--- a text writes bytes where its length is even and each byte is a digit
-pub digits_test : (text : List ℕ) → (eqb (length text % 2) 0 && list_all is_ascii_hexdigit text) ≡ is_some (hex_of text)
-digits_test [] = refl
-digits_test (h ∷ []) = refl
-digits_test (h ∷ l ∷ more) =
-    let p = ltb (digit_value h) 16 in
-    let q = ltb (digit_value l) 16 in
-    let even : length (h ∷ l ∷ more) % 2 ≡ length more % 2 = omega arith in
-    (λ k. eqb (even k) 0 && (digit_test h k && (digit_test l k && list_all is_ascii_hexdigit more)))
-    ∙ and_inside (eqb (length more % 2) 0) p q (list_all is_ascii_hexdigit more)
-    ∙ ap (λ t. p && (q && t)) (digits_test more)
-    ∙ sym (in_front_tests p q (digit_value h * 16 + digit_value l) (hex_of more))
-
--- the first n digits are written as the definition says, as a test that computes
-abbrev written_below : ℕ → Bool
-written_below zero = true
-written_below (suc n) = eqb (slice_index lower_digits n) (digit_char n) && written_below n
-
-written_at : (n d : ℕ) → written_below n ≡ true → d < n → slice_index lower_digits d ≡ digit_char d
-written_at zero d h small = absurd (omega arith)
-written_at (suc n) d h small =
-    let parts = and_parts (eqb (slice_index lower_digits n) (digit_char n)) (written_below n) h in
-    elim (cases_lt d n) [
-      | inl below ↦ written_at n d parts.1 below
-      | inr top ↦
-          let e : d ≡ n = omega arith in
-          rw e (eqb-true (slice_index lower_digits n) (digit_char n) parts.0)
-    ]
-
--- bytes are written as the definition says
-pub text_written : (bs : List ℕ) → IsBytes bs → encode_lower bs ≡ hex_text bs
-unfolding encode_with
-text_written [] fits = refl
-text_written (b ∷ bs) fits =
-    let small : b < 256 = fits 0 in
-    let high = written_at 16 (b / 16) refl (omega arith) in
-    let low = written_at 16 (b % 16) refl (omega arith) in
-    let rest = text_written bs (λ i. fits (suc i)) in
-    λ k. high k ∷ low k ∷ rest k
-
-are_bytes : (bs : List ℕ) → AllByRecursion (λ b. b < 256) bs → IsBytes bs
-are_bytes [] all i = omega arith
-are_bytes (b ∷ bs) all zero = all.0
-are_bytes (b ∷ bs) all (suc i) = are_bytes bs all.1 i
+byte_back : (b : ℕ) → b < 256 → byte_of (digit_char (b / 16)) (digit_char (b % 16)) ≡ Some b
+byte_back b small =
+    let high : b / 16 < 16 = omega arith in
+    let low : b % 16 < 16 = omega arith in
+    let x = digit_value-digit_char (b / 16) (omega arith) in
+    let y = digit_value-digit_char (b % 16) (omega arith) in
+    (λ i. byte_of_values (x i) (y i)) ∙ values_small (b / 16) (b % 16) b high low (div-add-mod' b 16)
 
 pub reads_back : HexReadsBack
-reads_back bs all =
-    let fits = are_bytes bs all in
-    ap hex_of (sym (text_written bs fits))
-    ∙ sym (pairs_read 0 (encode_lower bs))
-    ∙ ap result_ok (decode_pairs-encode_with lower_digits IsDigits-lower_digits 0 bs fits)
+reads_back [] all = refl
+reads_back (b ∷ bs) all =
+    let first = byte_back b all.0 in
+    let rest = reads_back bs all.1 in
+    λ i. in_front (first i) (rest i)
 
--- a text that writes bytes, read into as many bytes as it writes
-sized_read : (text : List ℕ) (n : ℕ) → n ≡ length text / 2 → is_some (hex_of text) ≡ true → decode_sized text n ≡ decode_pairs 0 text
-sized_read text n half some =
-    let even : length text % 2 ≡ 0 = eqb-true (length text % 2) 0 (and_parts (eqb (length text % 2) 0) (list_all is_ascii_hexdigit text) (digits_test text ∙ some)).0 in
-    grind (arith)
+-- two digits read
+pub hex_step : (xs : List ℕ) (o : Option ℕ) → 2 ≤ length xs → o ≡ byte_of (get_or xs 0 0) (get_or xs 1 0) → hex_of xs ≡ in_front o (hex_of (take (length xs - 2) (drop 2 xs)))
+hex_step [] o long e = absurd (omega arith)
+hex_step (x ∷ []) o long e = absurd (omega arith)
+hex_step (x ∷ y ∷ ys) o long e = λ i. in_front (sym e i) (hex_of (sym (take_rest (x ∷ y ∷ ys) 2) i))
 
-answered : (r : Result (List ℕ) FromHexError) (result : Result (Unit {0}) FromHexError) (out : List ℕ)
-    → MatchResult r (λ bs. (result ≡ Ok tt) × (out ≡ bs)) (λ e. result ≡ Err e)
-    → option_map (λ _. out) (result_ok result) ≡ result_ok r
-answered (Ok bs) result out h = ap (λ x. option_map (λ _. out) (result_ok x)) h.0 ∙ ap Some h.1
-answered (Err e) result out h = ap (λ x. option_map (λ _. out) (result_ok x)) h
+in_front_some : (o : Option ℕ) (bs : Option (List ℕ)) → is_some o ≡ true → is_some (in_front o bs) ≡ is_some bs
+in_front_some None bs e = absurd (false≢true e)
+in_front_some (Some b) None e = refl
+in_front_some (Some b) (Some bs) e = refl
 
--- what comes of reading a text that writes bytes
-pub bytes_read : (text : List ℕ) (n : ℕ) (result : Result (Unit {0}) FromHexError) (out : List ℕ)
-    → n ≡ length text / 2 → is_some (hex_of text) ≡ true
-    → MatchResult (decode_sized text n) (λ bs. (result ≡ Ok tt) × (out ≡ bs)) (λ e. result ≡ Err e)
-    → option_map (λ _. out) (result_ok result) ≡ hex_of text
-bytes_read text n result out half some h = answered (decode_sized text n) result out h ∙ ap result_ok (sized_read text n half some) ∙ pairs_read 0 text
+-- the test goes on behind two digits
+pub tested_more : (xs : List ℕ) (o : Option ℕ) (whole : Bool) → 2 ≤ length xs → o ≡ byte_of (get_or xs 0 0) (get_or xs 1 0) → is_some o ≡ true → is_some (hex_of xs) ≡ whole → is_some (hex_of (take (length xs - 2) (drop 2 xs))) ≡ whole
+tested_more xs o whole long e some was = sym (in_front_some o _ some) ∙ ap is_some (sym (hex_step xs o long e)) ∙ was
+
+-- a byte put behind those that stand
+behind : (was now : List ℕ) (b : ℕ) (bs : Option (List ℕ)) → now ≡ was ++ (b ∷ []) → option_map (λ l. now ++ l) bs ≡ option_map (λ l. was ++ l) (in_front (Some b) bs)
+behind was now b None e = refl
+behind was now b (Some bs) e = ap Some (ap (λ l. l ++ bs) e ∙ append_assoc was (b ∷ []) bs)
+
+-- a byte read
+pub read_more : (xs was now : List ℕ) (b : ℕ) (whole : Option (List ℕ)) → 2 ≤ length xs → Some b ≡ byte_of (get_or xs 0 0) (get_or xs 1 0) → now ≡ was ++ (b ∷ []) → option_map (λ l. was ++ l) (hex_of xs) ≡ whole → option_map (λ l. now ++ l) (hex_of (take (length xs - 2) (drop 2 xs))) ≡ whole
+read_more xs was now b whole long e grown inv = behind was now b _ grown ∙ ap (option_map (λ l. was ++ l)) (sym (hex_step xs (Some b) long e)) ∙ inv
+
+-- a digit written behind the text so far
+digit_behind : (was now : List ℕ) (d x : ℕ) → x < 16 → d ≡ digit_char x → now ≡ was ++ encode d → now ≡ was ++ (digit_char x ∷ [])
+digit_behind was now d x small e grown =
+    let ascii : digit_char x < 128 = grind (arith, nat_tests) in
+    grown ∙ ap (λ l. was ++ l) (ap encode e ∙ encode_ascii (digit_char x) ascii)
+
+-- a byte written behind the text so far
+pub written_more : (bs was between now : List ℕ) (i high low : ℕ) → Fits w8 (get_or bs i 0) → i < length bs → high ≡ digit_char (get_or bs i 0 / 16) → between ≡ was ++ encode high → low ≡ digit_char (get_or bs i 0 % 16) → now ≡ between ++ encode low → was ++ hex_text (drop i bs) ≡ hex_text bs → now ++ hex_text (drop (i + 1) bs) ≡ hex_text bs
+written_more bs was between now i high low fits within eh grown-high el grown-low inv =
+    let b = get_or bs i 0 in
+    let x = digit_char (b / 16) in
+    let y = digit_char (b % 16) in
+    let rest = hex_text (drop (i + 1) bs) in
+    let first = digit_behind was between high (b / 16) (omega arith) eh grown-high in
+    let second = digit_behind between now low (b % 16) (omega arith) el grown-low in
+    let whole : now ≡ (was ++ (x ∷ [])) ++ (y ∷ []) = second ∙ ap (λ l. l ++ (y ∷ [])) first in
+    let flat : ((was ++ (x ∷ [])) ++ (y ∷ [])) ++ rest ≡ was ++ (x ∷ (y ∷ rest)) = simp append_assoc in
+    ap (λ l. l ++ rest) whole ∙ flat ∙ ap (λ l. was ++ l) (sym (ap hex_text (drop_more bs i 0 within))) ∙ inv

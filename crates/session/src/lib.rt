@@ -2,7 +2,8 @@
 #![tactic(auto)]
 
 pub mod call;
+pub mod hex;
 pub mod line;
 pub mod perform;
 pub mod reply;
-pub mod sixteen;
+

@@ -6,8 +6,7 @@ ghost use Rattle.session.specs.Calls.{number_in, call_named, call_of};
 ghost use Rattle.session.specs.Lines.{opened};
 
 use crate::call::Call;
-use crate::sixteen::hex_bytes;
-use arrayvec::ArrayVec;
+use crate::hex::hex_bytes;
 use std::alloc::{AllocError, Global};
 
 // What the line asks, or none where it is no call.
@@ -16,11 +15,18 @@ pub(crate) fn call_of_line(line: &[u8]) -> Option<Call>
 {
     let mut words = line.split(|c| *c == b' ');
     let name = words.next()?;
-    let mut numbers = ArrayVec::<usize, 3>::new();
+    // An array with a count beside it, since reading a call allocates nothing.
+    let mut numbers = [0; 3];
+    let mut count = 0;
     for word in words {
-        numbers.try_push(number_in(word)?).ok()?;
+        let number = number_in(word)?;
+        if count == numbers.len() {
+            return None;
+        }
+        numbers[count] = number;
+        count += 1;
     }
-    call_by_name(name, &numbers)
+    call_by_name(name, &numbers[..count])
 }
 
 // The bytes that a line opens, or none where it opens nothing.

@@ -1,4 +1,4 @@
-use Rattle.std.proofs.Common.{◌≡◌, ℕ, List}
+use Rattle.std.proofs.Common.{◌≡◌, ◌≤◌, ℕ, List, length, take}
 use Rattle.std.proofs.lemmas.Iterator.{YieldsList}
 use Rattle.session.specs.Calls.{call_of}
 use Rattle.session.proofs.Words.{call_behind}
@@ -9,5 +9,7 @@ invariant-loop-word l =
     record {
       words : List (List ℕ);
       left : YieldsList goal.iterator-loop-word.next_gives (λ x. x.now) l.word-iterator words;
-      call : call_of l.line ≡ call_behind l.name l.numbers.items words;
+      few : l.count ≤ 3;
+      long : length l.numbers ≡ 3;
+      call : call_of l.line ≡ call_behind l.name (take l.count l.numbers) words;
     }
