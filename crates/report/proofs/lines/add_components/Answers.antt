@@ -1,4 +1,4 @@
-use Rattle.std.proofs.Common.{[], Some, string_bytes, append-nil, sym, ap, ◌∙◌}
+use Rattle.std.proofs.Common.{◌≡◌, [], ◌++◌, Some, string_bytes, append-nil, sym, ap, ◌∙◌}
 use Rattle.reader.specs.Means.{rows_held}
 use Rattle.report.specs.Text.{component_line, component_text}
 use Rattle.report.proofs.Adding.{line_more}
