@@ -1,5 +1,5 @@
 -- A run on two rigs, as far as it has come.
-use Rattle.std.proofs.Common.{◌≡◌, Bool, true, ◌&&◌, List, [], ◌∷◌, Decides, sym, refl, ap, ◌∙◌, subst}
+use Rattle.std.proofs.Common.{◌≡◌, Bool, true, ◌&&◌, List, [], ◌∷◌, Decides, sym, ap, ◌∙◌, subst}
 use Rattle.std.proofs.lemmas.Bool.{and_from, and_parts}
 use Rattle.sheet.specs.Sections.{Sheet}
 use Rattle.running.specs.States.{State}
@@ -12,9 +12,6 @@ pub record Along (a b : Sheet) (v o w p : State) (xs ys : List RunCall) (told : 
   pub pile_leads : after_run b p ys ≡ after_run b o xs
   pub onward : Agree a b v o xs → (told ≡ true) × Agree a b w p ys
   pub backward : told ≡ true → Agree a b w p ys → Agree a b v o xs
-
-pub along_start : (a b : Sheet) (v o : State) (xs : List RunCall) → Along a b v o v o xs xs true
-along_start a b v o xs = record { whole_leads = refl; pile_leads = refl; onward = λ h. (refl, h); backward = λ _ h. h }
 
 module _ (a b a' b' : Sheet) (v o w p : State) (xs : List RunCall) (told : Bool) (ea : a' ≡ a) (eb : b' ≡ b) where
   -- one call more, on rigs whose rows are still a and b

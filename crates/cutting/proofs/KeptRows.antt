@@ -3,6 +3,7 @@ use Rattle.std.proofs.Common.{◌≡◌, ℕ, Bool, true, ◌||◌, List, [], ge
 use Rattle.std.proofs.lemmas.Option.{slice_get-get_or}
 use Rattle.std.proofs.lemmas.Bool.{or_left, or_right}
 use Rattle.std.specs.Option.{option_map}
+use Rattle.std.specs.List.{list_any}
 use Rattle.sheet.specs.Entry.{Entry}
 use Rattle.sheet.specs.declared.rows.Element.{Element}
 use Rattle.sheet.specs.declared.rows.Flow.{Flow}
@@ -21,7 +22,7 @@ use Rattle.cutting.specs.declared.kinds.Thing.TheVariants.{Element as KeptElemen
 use Rattle.cutting.specs.Agreement.{IsKeptTransition}
 use Rattle.cutting.specs.CutSheet.{keeps_setting, cut_flow, cut_transition, cut_setting, cut_question, rests_by, is_used, cut_sheet}
 use Rattle.cutting.specs.Kept.{Kept, Chosen, keeps_from, Closed}
-use Rattle.cutting.specs.Numbered.{numbered, some_passes}
+use Rattle.cutting.specs.Numbered.{numbered}
 use Rattle.cutting.proofs.CutRows.{passing, with_to, element_cut, event_cut, node_cut, flow_cut, transition_cut, setting_cut, question_cut}
 use Rattle.cutting.proofs.NumberedLists.{passes_at}
 use Rattle.cutting.proofs.Passings.{found, all_pass, passing_found, passing_kept, mapped_found}
@@ -91,7 +92,7 @@ module _ (k : Kept) (chosen : Chosen) (s : Sheet) where
   -- ---- a node that a row rests on is used
 
   module _ {X : Type 0} (n : ℕ) (entry : Row → Entry X) (node : X → ℕ) where
-    used_by : (rs : List Row) (i : ℕ) (x : X) → there entry rs i ≡ Some x → rests s (ThatNode n) (node x) ≡ true → some_passes (rests_by s n entry node) rs ≡ true
+    used_by : (rs : List Row) (i : ℕ) (x : X) → there entry rs i ≡ Some x → rests s (ThatNode n) (node x) ≡ true → list_any (rests_by s n entry node) rs ≡ true
     used_by rs i x e h =
         let p = there_inside entry rs i x e in
         passes_at (rests_by s n entry node) rs i (get_or rs i []) (slice_get-get_or rs i [] p.0) (is_from (held (entry (get_or rs i []))) (λ x. rests s (ThatNode n) (node x)) x p.1 h)
@@ -99,16 +100,16 @@ module _ (k : Kept) (chosen : Chosen) (s : Sheet) where
   module _ (n : ℕ) where
     -- the four tests of `is_used`
     abbrev pub by_flow : Bool
-    by_flow = some_passes (rests_by s n flow_entry (λ x. x.node)) (numbered (cut_flow k) (rows s flows))
+    by_flow = list_any (rests_by s n flow_entry (λ x. x.node)) (numbered (cut_flow k) (rows s flows))
 
     abbrev pub by_guard : Bool
-    by_guard = some_passes (rests_by s n transition_entry (λ x. x.guard)) (numbered (cut_transition k) (rows s transitions))
+    by_guard = list_any (rests_by s n transition_entry (λ x. x.guard)) (numbered (cut_transition k) (rows s transitions))
 
     abbrev pub by_setting : Bool
-    by_setting = some_passes (rests_by s n setting_entry (λ x. x.node)) (numbered (cut_setting k s) (rows s settings))
+    by_setting = list_any (rests_by s n setting_entry (λ x. x.node)) (numbered (cut_setting k s) (rows s settings))
 
     abbrev pub by_question : Bool
-    by_question = some_passes (rests_by s n question_entry (λ x. x.node)) (numbered (cut_question chosen) (rows s questions))
+    by_question = list_any (rests_by s n question_entry (λ x. x.node)) (numbered (cut_question chosen) (rows s questions))
 
     pub used_by_flow : (i : ℕ) (x : Flow) → flow_at (cut_sheet k chosen s) i ≡ Some x → rests s (ThatNode n) x.node ≡ true → is_used k chosen s n ≡ true
     used_by_flow i x e h = or_left by_flow (by_guard || (by_setting || by_question)) (used_by n flow_entry (λ x. x.node) (numbered (cut_flow k) (rows s flows)) i x e h)

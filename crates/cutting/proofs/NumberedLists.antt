@@ -4,8 +4,8 @@ use Rattle.std.proofs.lemmas.List.{set-get_or}
 use Rattle.std.proofs.lemmas.Option.{slice_get-get_or}
 use Rattle.std.proofs.lemmas.Bool.{false≢true, or_cases, or_left, or_right}
 use Rattle.std.specs.Option.{option_map}
-use Rattle.std.specs.List.{slice_get}
-use Rattle.cutting.specs.Numbered.{numbered_from, numbered, some_passes}
+use Rattle.std.specs.List.{slice_get, list_any}
+use Rattle.cutting.specs.Numbered.{numbered_from, numbered}
 
 module _ {X Y : Type 0} (f : ℕ → X → Y) where
   length_from : (i : ℕ) (xs : List X) → length (numbered_from i f xs) ≡ length xs
@@ -65,16 +65,16 @@ module _ {X Y : Type 0} (f : ℕ → X → X) (g : Y → X) (h : ℕ → Y → Y
 -- ---- tests
 
 -- an element that passes
-pub passes_at : {X : Type 0} (p : X → Bool) (xs : List X) (i : ℕ) (x : X) → slice_get xs i ≡ Some x → p x ≡ true → some_passes p xs ≡ true
+pub passes_at : {X : Type 0} (p : X → Bool) (xs : List X) (i : ℕ) (x : X) → slice_get xs i ≡ Some x → p x ≡ true → list_any p xs ≡ true
 passes_at p [] i x e h = absurd (let z : ◌≡◌ {A = ℕ} 0 1 = cc in omega arith)
-passes_at p (y ∷ xs) zero x e h = let same : y ≡ x = cc in or_left (p y) (some_passes p xs) (ap p same ∙ h)
-passes_at p (y ∷ xs) (suc i) x e h = or_right (p y) (some_passes p xs) (passes_at p xs i x e h)
+passes_at p (y ∷ xs) zero x e h = let same : y ≡ x = cc in or_left (p y) (list_any p xs) (ap p same ∙ h)
+passes_at p (y ∷ xs) (suc i) x e h = or_right (p y) (list_any p xs) (passes_at p xs i x e h)
 
 -- where some element passes, it has a place
-pub passing_place : {X : Type 0} (p : X → Bool) (xs : List X) → some_passes p xs ≡ true → (i : ℕ) × (x : X) × (slice_get xs i ≡ Some x) × (p x ≡ true)
+pub passing_place : {X : Type 0} (p : X → Bool) (xs : List X) → list_any p xs ≡ true → (i : ℕ) × (x : X) × (slice_get xs i ≡ Some x) × (p x ≡ true)
 passing_place p [] h = absurd (false≢true h)
 passing_place p (x ∷ xs) h =
     ⊎_elim
     (λ (y : p x ≡ true). (0, x, refl, y))
-    (λ (y : some_passes p xs ≡ true). let q = passing_place p xs y in (suc q.0, q.1, q.2, q.3))
-    (or_cases (p x) (some_passes p xs) h)
+    (λ (y : list_any p xs ≡ true). let q = passing_place p xs y in (suc q.0, q.1, q.2, q.3))
+    (or_cases (p x) (list_any p xs) h)

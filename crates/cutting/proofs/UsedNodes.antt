@@ -1,6 +1,7 @@
 -- All that a remaining row or node of a cut sheet rests on is kept.
 use Rattle.std.proofs.Common.{◌≡◌, ℕ, true, ◌||◌, List, Some, ap, ◌∙◌, subst, ⊎_elim}
 use Rattle.std.proofs.lemmas.Bool.{and_parts, or_cases, or_left}
+use Rattle.std.specs.List.{list_any}
 use Rattle.sheet.specs.Entry.{Entry}
 use Rattle.sheet.specs.declared.rows.Flow.{Flow}
 use Rattle.sheet.specs.declared.rows.Node.{Node}
@@ -18,7 +19,7 @@ use Rattle.sheet.proofs.Lookups.{is_cases}
 use Rattle.cutting.specs.declared.kinds.Thing.TheVariants.{Element as KeptElement, Mode as KeptMode}
 use Rattle.cutting.specs.CutSheet.{keeps_setting, cut_flow, cut_transition, cut_setting, cut_question, rests_by, is_used}
 use Rattle.cutting.specs.Kept.{Kept, Chosen, keeps_from, Closed}
-use Rattle.cutting.specs.Numbered.{numbered, some_passes}
+use Rattle.cutting.specs.Numbered.{numbered}
 use Rattle.cutting.proofs.CutRows.{with_to}
 use Rattle.cutting.proofs.KeptRows.{question_kept, question_was, flow_stays, flow_was, transition_stays, transition_was, setting_stays, setting_was, by_flow, by_guard, by_setting, by_question, used_by_flow, used_by_guard, used_by_setting, used_by_question}
 use Rattle.cutting.proofs.NumberedLists.{passing_place}
@@ -85,7 +86,7 @@ module _ (k : Kept) (chosen : Chosen) (s : Sheet) (a : accepted s ≡ true) wher
 
     module _ (n : ℕ) where
       -- a node that some row of a section rests on, where each row rests on kept things
-      used_in : {X : Type 0} (entry : Row → Entry X) (node : X → ℕ) (rs : List Row) → ((i : ℕ) (x : X) → there entry rs i ≡ Some x → RestsOnKept k chosen s (node x)) → some_passes (rests_by s n entry node) rs ≡ true → RestsOnKept k chosen s n
+      used_in : {X : Type 0} (entry : Row → Entry X) (node : X → ℕ) (rs : List Row) → ((i : ℕ) (x : X) → there entry rs i ≡ Some x → RestsOnKept k chosen s (node x)) → list_any (rests_by s n entry node) rs ≡ true → RestsOnKept k chosen s n
       used_in entry node rs rested h =
           let p = passing_place (rests_by s n entry node) rs h in
           let q = is_cases (held (entry p.1)) (λ x. rests s (ThatNode n) (node x)) p.3 in

@@ -1,5 +1,6 @@
 -- The sheet and the state that a cut shows, and when there is none.
 use Rattle.std.specs.Prelude.{◌≡◌, ℕ, Bool, cond, not, ◌&&◌, ◌||◌, List, [], ◌∷◌, replicate, ℤ, pos, is_some, ◌==◌}
+use Rattle.std.specs.List.{list_any}
 use Rattle.sheet.specs.Entry.{Entry}
 use Rattle.sheet.specs.declared.rows.Connection.{Connection}
 use Rattle.sheet.specs.declared.rows.Setting.{Setting}
@@ -14,7 +15,7 @@ use Rattle.cutting.specs.declared.kinds.NoCut.{NoCut}
 use Rattle.cutting.specs.declared.kinds.NoCut.TheVariants.{EmptySet, NoQuestion}
 use Rattle.cutting.specs.declared.kinds.Thing.TheVariants.{Element as KeptElement, Event as KeptEvent, Mode as KeptMode}
 use Rattle.cutting.specs.Kept.{Kept, Chosen, chosen_in, keeps_from, Smallest}
-use Rattle.cutting.specs.Numbered.{numbered, some_passes}
+use Rattle.cutting.specs.Numbered.{numbered}
 
 -- The blank row of a section: FF 00 00 among the settings, FF among the questions, else all zeros.
 abbrev pub blank_row : ℕ → Row
@@ -73,10 +74,10 @@ rests_by s n entry node r = is (held (entry r)) (λ x. rests s (ThatNode n) (nod
 -- a remaining flow, guard, setting or question rests on node n
 abbrev pub is_used : Kept → Chosen → Sheet → ℕ → Bool
 is_used k chosen s n =
-    some_passes (rests_by s n flow_entry (λ x. x.node)) (numbered (cut_flow k) (rows s flows))
-    || (some_passes (rests_by s n transition_entry (λ x. x.guard)) (numbered (cut_transition k) (rows s transitions))
-    || (some_passes (rests_by s n setting_entry (λ x. x.node)) (numbered (cut_setting k s) (rows s settings))
-    || some_passes (rests_by s n question_entry (λ x. x.node)) (numbered (cut_question chosen) (rows s questions))))
+    list_any (rests_by s n flow_entry (λ x. x.node)) (numbered (cut_flow k) (rows s flows))
+    || (list_any (rests_by s n transition_entry (λ x. x.guard)) (numbered (cut_transition k) (rows s transitions))
+    || (list_any (rests_by s n setting_entry (λ x. x.node)) (numbered (cut_setting k s) (rows s settings))
+    || list_any (rests_by s n question_entry (λ x. x.node)) (numbered (cut_question chosen) (rows s questions))))
 
 abbrev pub cut_node : Kept → Chosen → Sheet → ℕ → Row → Row
 cut_node k chosen s n = stays_if nodes node_entry (λ x. is_used k chosen s n)

@@ -1,5 +1,5 @@
 -- Lists by the numbers of their places.
-use Rattle.std.specs.Prelude.{ℕ, ◌+◌, Bool, false, ◌||◌, List, [], ◌∷◌}
+use Rattle.std.specs.Prelude.{ℕ, ◌+◌, List, [], ◌∷◌}
 
 -- f of each element and its number, the first of which is i
 abbrev pub numbered_from : {X Y : Type 0} → ℕ → (ℕ → X → Y) → List X → List Y
@@ -9,8 +9,3 @@ numbered_from i f (x ∷ xs) = f i x ∷ numbered_from (i + 1) f xs
 -- f of each element and its number
 abbrev pub numbered : {X Y : Type 0} → (ℕ → X → Y) → List X → List Y
 numbered f xs = numbered_from 0 f xs
-
--- some element passes the test
-abbrev pub some_passes : {X : Type 0} → (X → Bool) → List X → Bool
-some_passes p [] = false
-some_passes p (x ∷ xs) = p x || some_passes p xs

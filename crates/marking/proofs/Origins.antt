@@ -13,6 +13,7 @@ use Rattle.sheet.specs.Sections.{Sheet, rows, nodes, flows, connections, transit
 use Rattle.sheet.specs.Typed.{node_entry, flow_entry, connection_entry, transition_entry, setting_entry}
 use Rattle.sheet.proofs.Firsts.{no_pass}
 use Rattle.sheet.proofs.Meaning.{there_inside}
+use Rattle.cutting.proofs.Passings.{mapped_found}
 use Rattle.marking.specs.declared.kinds.Rule.{Rule}
 use Rattle.marking.specs.Rules.{node_rule, flow_rule, connection_rule, transition_rule, setting_rule, flow_rule_at, setting_rule_at, rule_at}
 
@@ -24,10 +25,6 @@ pub data Origin (s : Sheet) (k i : ℕ) (r : Rule) : Type 0 where
   of_transition : (y : Transition) → k ≡ transitions → transition_at s i ≡ Some y → transition_rule y ≡ r → Origin s k i r
   of_setting : (x : Setting) (y : Transition) → k ≡ settings → setting_at s i ≡ Some x → transition_at s x.transition ≡ Some y → setting_rule x y ≡ r → Origin s k i r
 
-pub mapped_some : {X Y : Type 0} (f : X → Y) (o : Option X) (y : Y) → option_map f o ≡ Some y → (x : X) × (o ≡ Some x) × (f x ≡ y)
-mapped_some f None y e = no_pass y (sym e)
-mapped_some f (Some x) y e = (x, refl, cc)
-
 either : {X : Type 0} (b : Bool) (u v w : X) → cond b u v ≡ w → ((b ≡ true) × (u ≡ w)) ⊎ (v ≡ w)
 either true u v w e = inl (refl, e)
 either false u v w e = inr e
@@ -35,11 +32,11 @@ either false u v w e = inr e
 module _ (s : Sheet) (k i : ℕ) (r : Rule) where
   from_flow : (o : Option Flow) → flow_at s i ≡ o → k ≡ flows → flow_rule_at s o ≡ Some r → Origin s k i r
   from_flow None h l e = no_pass r (sym e)
-  from_flow (Some x) h l e = let p = mapped_some (flow_rule x) (element_at s x.port) r e in of_flow x p.0 l h p.1 p.2
+  from_flow (Some x) h l e = let p = mapped_found (flow_rule x) (element_at s x.port) r e in of_flow x p.0 l h p.1 p.2
 
   from_setting : (o : Option Setting) → setting_at s i ≡ o → k ≡ settings → setting_rule_at s o ≡ Some r → Origin s k i r
   from_setting None h l e = no_pass r (sym e)
-  from_setting (Some x) h l e = let p = mapped_some (setting_rule x) (transition_at s x.transition) r e in of_setting x p.0 l h p.1 p.2
+  from_setting (Some x) h l e = let p = mapped_found (setting_rule x) (transition_at s x.transition) r e in of_setting x p.0 l h p.1 p.2
 
   abbrev at_settings : Option Rule
   at_settings = cond (eqb k settings) (setting_rule_at s (setting_at s i)) None
@@ -63,14 +60,14 @@ module _ (s : Sheet) (k i : ℕ) (r : Rule) where
   transitions_origin : at_transitions ≡ Some r → Origin s k i r
   transitions_origin e =
       ⊎_elim
-      (λ (p : (eqb k transitions ≡ true) × (option_map transition_rule (transition_at s i) ≡ Some r)). let q = mapped_some transition_rule (transition_at s i) r p.1 in of_transition q.0 (eqb-true k transitions p.0) q.1 q.2)
+      (λ (p : (eqb k transitions ≡ true) × (option_map transition_rule (transition_at s i) ≡ Some r)). let q = mapped_found transition_rule (transition_at s i) r p.1 in of_transition q.0 (eqb-true k transitions p.0) q.1 q.2)
       settings_origin
       (either (eqb k transitions) (option_map transition_rule (transition_at s i)) at_settings (Some r) e)
 
   connections_origin : at_connections ≡ Some r → Origin s k i r
   connections_origin e =
       ⊎_elim
-      (λ (p : (eqb k connections ≡ true) × (option_map connection_rule (connection_at s i) ≡ Some r)). let q = mapped_some connection_rule (connection_at s i) r p.1 in of_connection q.0 (eqb-true k connections p.0) q.1 q.2)
+      (λ (p : (eqb k connections ≡ true) × (option_map connection_rule (connection_at s i) ≡ Some r)). let q = mapped_found connection_rule (connection_at s i) r p.1 in of_connection q.0 (eqb-true k connections p.0) q.1 q.2)
       transitions_origin
       (either (eqb k connections) (option_map connection_rule (connection_at s i)) at_transitions (Some r) e)
 
@@ -84,7 +81,7 @@ module _ (s : Sheet) (k i : ℕ) (r : Rule) where
   pub origin : rule_at s k i ≡ Some r → Origin s k i r
   origin e =
       ⊎_elim
-      (λ (p : (eqb k nodes ≡ true) × (option_map (node_rule i) (node_at s i) ≡ Some r)). let q = mapped_some (node_rule i) (node_at s i) r p.1 in of_node q.0 (eqb-true k nodes p.0) q.1 q.2)
+      (λ (p : (eqb k nodes ≡ true) × (option_map (node_rule i) (node_at s i) ≡ Some r)). let q = mapped_found (node_rule i) (node_at s i) r p.1 in of_node q.0 (eqb-true k nodes p.0) q.1 q.2)
       flows_origin
       (either (eqb k nodes) (option_map (node_rule i) (node_at s i)) at_flows (Some r) e)
 

@@ -3,6 +3,7 @@ use Rattle.std.proofs.Common.{◌≡◌, ℕ, Bool, true, false, cond, ◌||◌,
 use Rattle.std.proofs.lemmas.Option.{slice_get-get_or}
 use Rattle.std.proofs.lemmas.Bool.{and_parts, and_from, or_cases, or_left, or_right, cond-true}
 use Rattle.std.specs.Option.{option_map}
+use Rattle.std.specs.List.{list_any}
 use Rattle.sheet.specs.Entry.{Entry}
 use Rattle.sheet.specs.declared.rows.Flow.{Flow}
 use Rattle.sheet.specs.declared.rows.Question.{Question}
@@ -19,10 +20,10 @@ use Rattle.sheet.proofs.Meaning.{there_inside}
 use Rattle.cutting.specs.declared.kinds.Thing.TheVariants.{Element as KeptElement}
 use Rattle.cutting.specs.CutSheet.{rests_by, is_used, cut_flow, cut_transition, cut_setting, cut_question, keeps_setting}
 use Rattle.cutting.specs.Kept.{Kept, Chosen, keeps_from}
-use Rattle.cutting.specs.Numbered.{numbered, some_passes}
+use Rattle.cutting.specs.Numbered.{numbered}
 use Rattle.cutting.proofs.CutRows.{passing, with_to, flow_cut, transition_cut, setting_cut, question_cut}
 use Rattle.cutting.proofs.NumberedLists.{passes_at, passing_place}
-use Rattle.marking.proofs.Origins.{mapped_some}
+use Rattle.cutting.proofs.Passings.{mapped_found}
 
 -- A remaining row names the node r: a flow to a kept port, a guard of a transition with a kept from mode, a setting of a
 -- kept element by such a transition, or a chosen question.
@@ -49,29 +50,29 @@ module _ {X : Type 0} (p : X → Bool) where
 -- ---- the rows of a section that rest on a node
 
 module _ {X : Type 0} (s : Sheet) (n : ℕ) (entry : Row → Entry X) (node : X → ℕ) (rs : List Row) where
-  user_of : some_passes (rests_by s n entry node) rs ≡ true → (i : ℕ) × (x : X) × (there entry rs i ≡ Some x) × (rests s (ThatNode n) (node x) ≡ true)
+  user_of : list_any (rests_by s n entry node) rs ≡ true → (i : ℕ) × (x : X) × (there entry rs i ≡ Some x) × (rests s (ThatNode n) (node x) ≡ true)
   user_of h =
       let p = passing_place (rests_by s n entry node) rs h in
       let q = is_cases (held (entry p.1)) (λ x. rests s (ThatNode n) (node x)) p.3 in
       (p.0, q.0, ap (read_by entry) p.2 ∙ q.1, q.2)
 
-  used_by : (i : ℕ) (x : X) → there entry rs i ≡ Some x → rests s (ThatNode n) (node x) ≡ true → some_passes (rests_by s n entry node) rs ≡ true
+  used_by : (i : ℕ) (x : X) → there entry rs i ≡ Some x → rests s (ThatNode n) (node x) ≡ true → list_any (rests_by s n entry node) rs ≡ true
   used_by i x e h =
       let p = there_inside entry rs i x e in
       passes_at (rests_by s n entry node) rs i (get_or rs i []) (slice_get-get_or rs i [] p.0) (is_from (held (entry (get_or rs i []))) (λ x. rests s (ThatNode n) (node x)) x p.1 h)
 
 module _ (k : Kept) (chosen : Chosen) (s : Sheet) (n : ℕ) where
   abbrev by_flows : Bool
-  by_flows = some_passes (rests_by s n flow_entry (λ x. x.node)) (numbered (cut_flow k) (rows s flows))
+  by_flows = list_any (rests_by s n flow_entry (λ x. x.node)) (numbered (cut_flow k) (rows s flows))
 
   abbrev by_guards : Bool
-  by_guards = some_passes (rests_by s n transition_entry (λ x. x.guard)) (numbered (cut_transition k) (rows s transitions))
+  by_guards = list_any (rests_by s n transition_entry (λ x. x.guard)) (numbered (cut_transition k) (rows s transitions))
 
   abbrev by_settings : Bool
-  by_settings = some_passes (rests_by s n setting_entry (λ x. x.node)) (numbered (cut_setting k s) (rows s settings))
+  by_settings = list_any (rests_by s n setting_entry (λ x. x.node)) (numbered (cut_setting k s) (rows s settings))
 
   abbrev by_questions : Bool
-  by_questions = some_passes (rests_by s n question_entry (λ x. x.node)) (numbered (cut_question chosen) (rows s questions))
+  by_questions = list_any (rests_by s n question_entry (λ x. x.node)) (numbered (cut_question chosen) (rows s questions))
 
   -- a node on which a named node rests
   abbrev Used : Type 0
@@ -87,7 +88,7 @@ module _ (k : Kept) (chosen : Chosen) (s : Sheet) (n : ℕ) where
   from_guards : by_guards ≡ true → Used
   from_guards h =
       let u = user_of s n transition_entry (λ x. x.guard) (numbered (cut_transition k) (rows s transitions)) h in
-      let m = mapped_some (with_to k) (passing (keeps_from k) (transition_at s u.0)) u.1 (sym (transition_cut k chosen s u.0) ∙ u.2) in
+      let m = mapped_found (with_to k) (passing (keeps_from k) (transition_at s u.0)) u.1 (sym (transition_cut k chosen s u.0) ∙ u.2) in
       let p = passing_was (keeps_from k) (transition_at s u.0) m.0 m.1 in
       (u.1.guard, in_guard u.0 m.0 p.0 p.1 (ap (λ y. y.guard) m.2), u.3)
 
