@@ -7,7 +7,7 @@ use reader::fault::ReadFault;
 use reader::read::{read, verdict};
 use rig::rig::Rig;
 use std::alloc::{AllocError, Global};
-use std::fmt;
+use thiserror::Error;
 use writer::fault::TooShort;
 use writer::write::write;
 
@@ -18,39 +18,27 @@ const FILL: u8 = 0xAA;
 const SPARE: usize = 17;
 
 // What comes out otherwise than expected.
-#[derive(Clone, Copy)]
+#[derive(Clone, Copy, Debug, Error)]
 pub(crate) enum Wrong {
     // The verdict is another one.
+    #[error("the verdict is {0}")]
     Verdict(Verdict),
     // Reading the sheet comes to another verdict.
+    #[error("reading says {0}")]
     Reading(Verdict),
     // Writing to a buffer of so many bytes gives another reply.
+    #[error("the reply for a buffer of {room} bytes is {reply:?}")]
     Reply {
         room: usize,
         reply: Result<usize, TooShort>,
     },
     // A buffer of so many bytes is left with other contents.
+    #[error("a buffer of {room} bytes is left with other contents")]
     Contents {
         room: usize,
     },
+    #[error("out of memory")]
     OutOfMemory,
-}
-
-impl fmt::Display for Wrong {
-    fn fmt<W: fmt::Write>(&self, f: &mut fmt::Formatter<W>) -> fmt::Result {
-        match *self {
-            Wrong::Verdict(found) => write!(f, "the verdict is {found}"),
-            Wrong::Reading(found) => write!(f, "reading says {found}"),
-            Wrong::Reply { room, reply } => {
-                write!(f, "the reply for a buffer of {room} bytes is {reply:?}")
-            }
-            Wrong::Contents { room } => write!(
-                f,
-                "a buffer of {room} bytes is left with other contents"
-            ),
-            Wrong::OutOfMemory => write!(f, "out of memory"),
-        }
-    }
 }
 
 impl From<AllocError> for Wrong {
@@ -60,25 +48,15 @@ impl From<AllocError> for Wrong {
 }
 
 fn try_verdict(case: &Case) -> Result<(), Wrong> {
-    let found = match verdict(&case.bytes) {
-        Ok(()) => Verdict::Accepted,
-        Err(refusal) => Verdict::refused(refusal),
-    };
-    if found == case.expected {
-        Ok(())
-    } else {
-        Err(Wrong::Verdict(found))
-    }
+    let found = Verdict::from(verdict(&case.bytes));
+    case.check(found).map_err(Wrong::Verdict)
 }
 
 // Whether the buffer begins with these bytes and is as it was behind them.
 fn holds(buffer: &[u8], front: &[u8]) -> bool {
-    for b in buffer.iter().skip(front.len()) {
-        if *b != FILL {
-            return false;
-        }
-    }
-    buffer.starts_with(front)
+    buffer
+        .strip_prefix(front)
+        .is_some_and(|behind| behind.iter().all(|b| *b == FILL))
 }
 
 // Writes the rig's sheet, which was read from these bytes, to a buffer with room for so many bytes.
@@ -119,22 +97,17 @@ fn try_writes<R: Rig>(heap: Global, rig: &R, bytes: &[u8]) -> Result<(), Wrong>
 
 // Reads the sheet, and writes it if it is accepted.
 fn try_read(heap: Global, case: &Case) -> Result<(), Wrong> {
-    let found = match read(heap, &case.bytes) {
+    let answer = match read(heap, &case.bytes) {
         Ok(sheet) => {
-            let Ok(rig) = OpenRig::new(heap, sheet) else {
-                return Err(Wrong::OutOfMemory);
-            };
+            let rig = OpenRig::new(heap, sheet).map_err(|_| Wrong::OutOfMemory)?;
             try_writes(heap, &rig, &case.bytes)?;
-            Verdict::Accepted
+            Ok(())
         }
-        Err(ReadFault::Refused(refusal)) => Verdict::refused(refusal),
+        Err(ReadFault::Refused(refusal)) => Err(refusal),
         Err(ReadFault::OutOfMemory) => return Err(Wrong::OutOfMemory),
     };
-    if found == case.expected {
-        Ok(())
-    } else {
-        Err(Wrong::Reading(found))
-    }
+    let found = Verdict::from(answer);
+    case.check(found).map_err(Wrong::Reading)
 }
 
 // Tries all that a case says.
