@@ -36,20 +36,23 @@ impl fmt::Display for Tally {
     }
 }
 
-// Tries each case of a table, and counts them. A line that is blank or begins with `#` is no case.
-pub fn try_cases<T, E, F>(heap: Global, table: T, is_right: F) -> Result<Tally, E>
+// Tries each case of a table, and counts them. `part` gives what is read of a line, such as the line without the blanks
+// around it; where that is empty or begins with `#`, the line is no case.
+pub fn try_cases<T, E, P, F>(heap: Global, table: T, part: P, is_right: F) -> Result<Tally, E>
 where
     T: Read + Drop,
     E: From<io::Error>,
+    P: Fn(&str) -> &str,
     F: Fn(&str) -> Result<bool, E>,
-    requires { F.IsAlwaysCallable is_right }
-    ensures right { ((text : _) → F.post is_right text (Ok false) → ⊥) → IfOk result (λ t. t.wrong ≡ 0) }
-    ensures wrong { ((text : _) → F.post is_right text (Ok true) → ⊥) → IfOk result (λ t. t.wrong ≡ t.tried) }
+    requires part { P.IsAlwaysCallable part }
+    requires is_right { F.IsAlwaysCallable is_right }
+    ensures all_right { ((text : _) → F.post is_right text (Ok false) → ⊥) → IfOk result (λ t. t.wrong ≡ 0) }
+    ensures all_wrong { ((text : _) → F.post is_right text (Ok true) → ⊥) → IfOk result (λ t. t.wrong ≡ t.tried) }
 {
     let mut tally = Tally { tried: 0, wrong: 0 };
     for line in BufReader::new(heap, table)?.lines(heap) {
         let line = line?;
-        let text = line.trim();
+        let text = part(&line);
         if text.is_empty() || text.starts_with('#') {
             continue;
         }

@@ -38,6 +38,11 @@ fn run_line(rt: &impl Print, heap: Global, line: &str) -> io::Result<bool> {
 
 fn main(rt: HostRuntime) -> io::Result<()> {
     let heap = rt.alloc();
-    let tally = try_cases(heap, rt.stdin(), |line| run_line(&rt, heap, line))?;
+    let tally = try_cases(
+        heap,
+        rt.stdin(),
+        str::trim,
+        |line| run_line(&rt, heap, line),
+    )?;
     println!(rt; "{tally}")
 }

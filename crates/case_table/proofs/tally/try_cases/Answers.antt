@@ -14,7 +14,7 @@ still_all P false t t' w w' p f e never z = e ∙ ap (λ k. min (k + 1) (2 ^ 64 
 pub loop-line-preserved : goal.loop-line-preserved
 loop-line-preserved g c =
     let before = c.loop-line.invariant in
-    let text = c.trim-text.result in
+    let text = c.part-text.result in
     let b = c.in_ok-is_right.field-0 in
     let given = c.in_ok-is_right.ensures in (
       before.0,
