@@ -1,3 +1,2 @@
 pub mod OneCall
-pub mod Parts
 pub mod Reply

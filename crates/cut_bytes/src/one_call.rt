@@ -1,12 +1,11 @@
 // The one-call cut.
 
-ghost use Rattle.std.specs.Prelude.{◌≡◌, ℕ};
-ghost use Rattle.cut_bytes.specs.Parts.{CutAbove};
+ghost use Rattle.std.specs.Prelude.{◌≡◌};
 ghost use Rattle.cut_bytes.specs.OneCall.{CutOfSheet, CutOfBytes};
 
 use crate::fault::CutFault;
 use cut_rig::cut::Cut;
-use cutting::kinds::{NoCut, QuestionSet};
+use cutting::kinds::QuestionSet;
 use packed_rig::packed::PackedRig;
 use reader::read::read;
 use rig::rig::Rig;
@@ -31,18 +30,7 @@ fn cut_and_write<R: Rig + Drop>(rig: R, set: QuestionSet, out: &mut [u8]) -> Res
     requires { R.Rig.fits rig }
     ensures { CutOfSheet (R.Rig.rows rig) set out.old out.new result }
 {
-    let cut = cut_of(rig, set)?;
+    let cut = Cut::new(rig, set).map_err(|(_, fault)| fault)?;
     let length = write(&cut, out)?;
     Ok(length)
-}
-
-// The cut of the rig for the questions, or why there is none.
-fn cut_of<R: Rig + Drop>(rig: R, set: QuestionSet) -> Result<Cut<R>, NoCut>
-    requires { R.Rig.fits rig }
-    ensures { CutAbove R.Rig.rows R.Rig.fits rig set result }
-{
-    match Cut::new(rig, set) {
-        Ok(cut) => Ok(cut),
-        Err((_, fault)) => Err(fault),
-    }
 }

@@ -1,13 +1,11 @@
 // What the program writes for its input.
 
-ghost use Rattle.std.specs.Prelude.{◌≡◌, ℕ, IfOk, slice_index};
-ghost use Rattle.cut_bytes.specs.Reply.{set_in, sheet_in, refusal_line, LineOf, ReplyTo};
+ghost use Rattle.std.specs.Prelude.{◌≡◌, IfOk};
+ghost use Rattle.cut_bytes.specs.Reply.{set_in, sheet_in, LineOf, ReplyTo};
 
 use crate::fault::CutFault;
 use crate::one_call::cut_bytes;
 use cutting::kinds::QuestionSet;
-use reader::fault::ReadFault;
-use refused::refused_line;
 use std::alloc::{AllocError, Global};
 
 // The cut's bytes, or the line of the refusal. The input is a set of questions, two bytes with the low byte first, and
@@ -27,46 +25,25 @@ pub fn reply_to_input(heap: Global, input: &[u8]) -> Result<Vec<u8>, AllocError>
 fn line_of_fault(heap: Global, fault: CutFault) -> Result<Vec<u8>, AllocError>
     ensures { IfOk result (λ v. LineOf fault v.items) }
 {
-    match fault {
-        CutFault::Reading(ReadFault::Refused(f)) => {
-            line(heap, u8::from(f.reason), f.section, f.row)
-        }
-        CutFault::Reading(ReadFault::OutOfMemory) => Err(AllocError),
-        CutFault::Cutting(f) => line(heap, 14, f.question(), 0),
-        CutFault::Writing(f) => line(heap, 15, f.needed, 0),
-    }
+    let Some(refused) = fault.refused() else {
+        return Err(AllocError);
+    };
+    let line = format!(in heap; "{refused}\n")?;
+    Ok(line.into_bytes())
 }
 
-// The set of questions at the front of the input.
+// The set of questions at the front of the input. A byte that is missing counts as 0.
 fn set_in(input: &[u8]) -> QuestionSet
     ensures { result ≡ set_in input.now }
 {
-    u16::from_le_bytes([byte_at(input, 0), byte_at(input, 1)])
-}
-
-// A byte of the input, or 0 where it has none.
-fn byte_at(input: &[u8], place: usize) -> u8
-    ensures { result ≡ slice_index input.now place }
-{
-    if place < input.len() { input[place] } else { 0 }
+    let low = input.first().copied().unwrap_or(0);
+    let high = input.get(1).copied().unwrap_or(0);
+    u16::from_le_bytes([low, high])
 }
 
 // The bytes of the sheet in the input.
 fn sheet_in(input: &[u8]) -> &[u8]
     ensures { result.now ≡ sheet_in input.now }
 {
-    if input.len() < 2 {
-        &input[input.len()..]
-    } else {
-        &input[2..]
-    }
-}
-
-// The line of a refusal, as bytes.
-fn line(heap: Global, number: u8, first: usize, second: usize) -> Result<Vec<u8>, AllocError>
-    ensures { IfOk result (λ v. v.items ≡ refusal_line number first second) }
-{
-    let mut text = refused_line(heap, number, first, second)?;
-    text.push('\n')?;
-    Ok(text.into_bytes())
+    input.get(2..).unwrap_or(&[])
 }

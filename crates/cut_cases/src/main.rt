@@ -8,14 +8,14 @@
 mod case;
 mod trial;
 
-use crate::case::parse_case;
+use crate::case::Case;
 use crate::trial::differing_reply;
+use case_table::tally::try_cases;
 use std::alloc::Global;
-use std::io::{BufRead, BufReader};
 
 // Tries the case on a line, prints what comes out, and tells whether that is what the case expects.
 fn run_line(rt: &impl Print, heap: Global, line: &str) -> anyhow::Result<bool> {
-    let case = match parse_case(heap, line) {
+    let case = match Case::parse(heap, line) {
         Ok(case) => case,
         Err(fault) => {
             println!(rt; "WRONG {fault}: {line}")?;
@@ -37,19 +37,12 @@ fn run_line(rt: &impl Print, heap: Global, line: &str) -> anyhow::Result<bool> {
 
 fn main(rt: HostRuntime) -> anyhow::Result<()> {
     let heap = rt.alloc();
-    let mut cases = 0u64;
-    let mut wrong = 0u64;
-    for line in BufReader::new(heap, rt.stdin())?.lines(heap) {
-        let line = line?;
-        let text = line.trim();
-        if text.is_empty() || text.starts_with('#') {
-            continue;
-        }
-        cases = cases.saturating_add(1);
-        if !run_line(&rt, heap, text)? {
-            wrong = wrong.saturating_add(1);
-        }
-    }
-    println!(rt; "{cases} cases, {wrong} wrong")?;
+    let tally = try_cases(
+        heap,
+        rt.stdin(),
+        str::trim,
+        |line| run_line(&rt, heap, line),
+    )?;
+    println!(rt; "{tally}")?;
     Ok(())
 }

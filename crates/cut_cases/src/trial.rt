@@ -19,7 +19,7 @@ fn reply_in_words(heap: Global, reply: &[u8]) -> Result<String, AllocError> {
 // The reply where it is not the expected one.
 pub(crate) fn differing_reply(heap: Global, case: &Case) -> Result<Option<String>, AllocError> {
     let reply = reply_to_input(heap, &case.input)?;
-    if reply.as_slice() == case.expected.as_slice() {
+    if reply == case.expected {
         Ok(None)
     } else {
         Ok(Some(reply_in_words(heap, &reply)?))

@@ -1,27 +1,25 @@
-// Standard input, read into a buffer.
+// Input read into a buffer.
 #![tactic(auto)]
 
-ghost use Rattle.std.specs.Prelude.{◌≤◌, length, IfOk};
+ghost use Rattle.std.specs.Prelude.{◌≤◌, ◌<◌, length, IfOk};
+ghost use Rattle.std.specs.Io.KnownBytes.{Consumes, IsAtEnd};
 
-use sheet::sizes::INPUT_LIMIT;
+use std::io;
 use std::io::Read;
 
-// Fills the buffer from standard input, and tells how many bytes came. What lies behind is not read: a sheet's layout
-// ends before.
-pub fn read_input(rt: &HostRuntime, buffer: &mut [u8]) -> anyhow::Result<usize>
-    ensures { IfOk result (λ n. n ≤ length buffer.new) }
+// Fills the buffer from the input, and gives the bytes that came. What lies behind is not read.
+pub fn read_input<'a, R: Read>(input: &mut R, buffer: &'a mut [u8]) -> io::Result<&'a [u8]>
+    ensures room { IfOk result (λ bytes. length bytes.now ≤ length buffer.old) }
+    ensures bytes { IfOk result (λ bytes. Consumes (R.remaining input.old) (R.remaining input.new) bytes.now) }
+    ensures all { IfOk result (λ bytes. length bytes.now < length buffer.old → IsAtEnd (R.remaining input.new)) }
 {
-    let mut input = rt.stdin();
     let mut len = 0;
-    for _ in 0..INPUT_LIMIT {
-        if len >= buffer.len() {
-            break;
-        }
+    while len < buffer.len() {
         let n = input.read(&mut buffer[len..])?;
         if n == 0 {
             break;
         }
         len += n;
     }
-    Ok(len)
+    Ok(&buffer[..len])
 }

@@ -18,7 +18,7 @@ const FILL: u8 = 0xAA;
 const SPARE: usize = 17;
 
 // What comes out otherwise than expected.
-#[derive(Clone, Copy)]
+#[derive(Clone, Copy, Debug)]
 pub(crate) enum Wrong {
     // The verdict is another one.
     Verdict(Verdict),
@@ -60,25 +60,15 @@ impl From<AllocError> for Wrong {
 }
 
 fn try_verdict(case: &Case) -> Result<(), Wrong> {
-    let found = match verdict(&case.bytes) {
-        Ok(()) => Verdict::Accepted,
-        Err(refusal) => Verdict::refused(refusal),
-    };
-    if found == case.expected {
-        Ok(())
-    } else {
-        Err(Wrong::Verdict(found))
-    }
+    let found = Verdict::from(verdict(&case.bytes));
+    case.check(found).map_err(Wrong::Verdict)
 }
 
 // Whether the buffer begins with these bytes and is as it was behind them.
 fn holds(buffer: &[u8], front: &[u8]) -> bool {
-    for b in buffer.iter().skip(front.len()) {
-        if *b != FILL {
-            return false;
-        }
-    }
-    buffer.starts_with(front)
+    buffer
+        .strip_prefix(front)
+        .is_some_and(|behind| behind.iter().all(|b| *b == FILL))
 }
 
 // Writes the rig's sheet, which was read from these bytes, to a buffer with room for so many bytes.
@@ -119,22 +109,17 @@ fn try_writes<R: Rig>(heap: Global, rig: &R, bytes: &[u8]) -> Result<(), Wrong>
 
 // Reads the sheet, and writes it if it is accepted.
 fn try_read(heap: Global, case: &Case) -> Result<(), Wrong> {
-    let found = match read(heap, &case.bytes) {
+    let answer = match read(heap, &case.bytes) {
         Ok(sheet) => {
-            let Ok(rig) = OpenRig::new(heap, sheet) else {
-                return Err(Wrong::OutOfMemory);
-            };
+            let rig = OpenRig::new(heap, sheet).map_err(|_| Wrong::OutOfMemory)?;
             try_writes(heap, &rig, &case.bytes)?;
-            Verdict::Accepted
+            Ok(())
         }
-        Err(ReadFault::Refused(refusal)) => Verdict::refused(refusal),
+        Err(ReadFault::Refused(refusal)) => Err(refusal),
         Err(ReadFault::OutOfMemory) => return Err(Wrong::OutOfMemory),
     };
-    if found == case.expected {
-        Ok(())
-    } else {
-        Err(Wrong::Reading(found))
-    }
+    let found = Verdict::from(answer);
+    case.check(found).map_err(Wrong::Reading)
 }
 
 // Tries all that a case says.

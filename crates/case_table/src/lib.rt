@@ -1,0 +1,6 @@
+// A table of cases, one in a line.
+#![tactic(auto)]
+
+pub mod fault;
+pub mod hex;
+pub mod tally;
