@@ -8,7 +8,7 @@ ghost use Rattle.report.specs.Text.{count_line, component_line, question_line, l
 use crate::names::name_of_section;
 use reader::accepted::AcceptedSheet;
 use sheet::rows::{Component, Question};
-use sheet::sizes::SECTIONS;
+use sheet::sizes::{COMPONENTS, QUESTIONS, SECTIONS};
 use std::alloc::AllocError;
 
 // Adds the number of rows of each section.
@@ -27,8 +27,8 @@ pub(crate) fn add_counts(text: &mut String, sheet: &AcceptedSheet) -> Result<(),
 pub(crate) fn add_components(text: &mut String, sheet: &AcceptedSheet) -> Result<(), AllocError>
     ensures { OnOk result (string_bytes text.new ≡ string_bytes text.old ++ lines (length (rows (rows_held sheet.now) components)) (component_line (rows_held sheet.now))) }
 {
-    for i in 0..sheet.count(0).unwrap_or(0) {
-        if let Some(Component { modes, start }) = sheet.component(i) {
+    for i in 0..sheet.count(COMPONENTS).unwrap_or(0) {
+        if let Some(Component { modes, start }) = sheet.row(i) {
             writeln!(
                 text,
                 "component {i}: modes 1 to {modes}, starts in mode {start}"
@@ -42,8 +42,8 @@ pub(crate) fn add_components(text: &mut String, sheet: &AcceptedSheet) -> Result
 pub(crate) fn add_questions(text: &mut String, sheet: &AcceptedSheet) -> Result<(), AllocError>
     ensures { OnOk result (string_bytes text.new ≡ string_bytes text.old ++ lines (length (rows (rows_held sheet.now) questions)) (question_line (rows_held sheet.now))) }
 {
-    for i in 0..sheet.count(8).unwrap_or(0) {
-        match sheet.question(i) {
+    for i in 0..sheet.count(QUESTIONS).unwrap_or(0) {
+        match sheet.row(i) {
             Some(Question { node }) => writeln!(
                 text,
                 "question {i} asks whether node {node} holds"

@@ -3,11 +3,11 @@
 // line that is blank or begins with `#` is passed over. What goes otherwise begins with `WRONG`.
 #![tactic(auto)]
 
+use case_table::tally::{Tally, try_cases};
 use opening::open::open_by_line;
 use rig::rig::Rig;
 use session::perform::reply_to_line;
 use std::alloc::Global;
-use std::io::{BufRead, BufReader};
 
 // Makes each call of the script, and gives the first one whose reply is not the expected one.
 fn first_wrong<'a, R: Rig>(
@@ -61,18 +61,12 @@ fn run_line(rt: &impl Print, heap: Global, line: &str) -> anyhow::Result<bool> {
 
 fn main(rt: HostRuntime) -> anyhow::Result<()> {
     let heap = rt.alloc();
-    let mut sessions = 0u64;
-    let mut wrong = 0u64;
-    for line in BufReader::new(heap, rt.stdin())?.lines(heap) {
-        let line = line?;
-        if line.is_empty() || line.starts_with('#') {
-            continue;
-        }
-        sessions = sessions.saturating_add(1);
-        if !run_line(&rt, heap, line.as_str())? {
-            wrong = wrong.saturating_add(1);
-        }
-    }
-    println!(rt; "{sessions} sessions, {wrong} wrong")?;
+    let Tally { tried, wrong, .. } = try_cases(
+        heap,
+        rt.stdin(),
+        |line| line,
+        |line| run_line(&rt, heap, line),
+    )?;
+    println!(rt; "{tried} sessions, {wrong} wrong")?;
     Ok(())
 }

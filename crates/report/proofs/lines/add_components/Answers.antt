@@ -11,8 +11,8 @@ loop-i-preserved c =
     let i = c.loop-i.i-counter in
     let start = string_bytes c.args.text.now in
     let was = string_bytes c.loop-i.text in
-    let now = string_bytes c.match-component.text in
-    elim c.match-component.branch [
+    let now = string_bytes c.match-row.text in
+    elim c.match-row.branch [
       | in-Some+in_ok-writeln w ↦
           let line = component_text i (Some w.in-Some.field-0) in
           let added : now ≡ was ++ line = ap string_bytes w.text-is ∙ w.in_ok-writeln.ensures.bytes in

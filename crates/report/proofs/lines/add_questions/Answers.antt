@@ -11,8 +11,8 @@ loop-i-preserved c =
     let i = c.loop-i.i-counter in
     let start = string_bytes c.args.text.now in
     let was = string_bytes c.loop-i.text in
-    let now = string_bytes c.match-question.text in
-    elim c.match-question.branch [
+    let now = string_bytes c.match-row.text in
+    elim c.match-row.branch [
       | in-Some+in_ok-writeln-in-Some w ↦ line_more start was now _ (question_line s) i c.loop-i.invariant (ap string_bytes w.text-is ∙ w.in_ok-writeln-in-Some.ensures.bytes) (ap (question_text i) w.in-Some.ensures)
       | in-None+in_ok-writeln-in-None w ↦ line_more start was now _ (question_line s) i c.loop-i.invariant (ap string_bytes w.text-is ∙ w.in_ok-writeln-in-None.ensures.bytes) (ap (question_text i) w.in-None.ensures)
     ]
