@@ -17,79 +17,91 @@ use sheet::sizes::SECTIONS;
 use view::typed::{connection, element, event, flow, node, question, setting, transition};
 use view::view::View;
 
-// Whether transition t is there and its from mode is kept.
-fn transition_stays<V: View>(view: &V, marks: &Marks, t: usize) -> bool
-    requires { Fit (V.View.fits view.now) (V.View.rows view.now) }
-    ensures { result ≡ is (transition_at (V.View.rows view.now) t) (keeps_from (kept_of marks.now)) }
-{
-    transition(view, t).is_some_and(|x| marks.keeps(Thing::Mode(x.component, x.from)))
+// What decides which rows stay: the rows, the marks of what is kept of them, and the set of questions.
+#[derive(Drop)]
+struct Keeping<'a, V> {
+    view: &'a V,
+    marks: &'a Marks,
+    set: QuestionSet,
 }
 
-// Whether connection i is there and both its events are kept.
-fn connection_stays<V: View>(view: &V, marks: &Marks, i: usize) -> bool
-    requires { Fit (V.View.fits view.now) (V.View.rows view.now) }
-    ensures { result ≡ is (connection_at (V.View.rows view.now) i) (keeps_events (kept_of marks.now)) }
-{
-    connection(view, i).is_some_and(|x| {
-        marks.keeps(Thing::Event(x.out_event)) && marks.keeps(Thing::Event(x.in_event))
-    })
-}
-
-// Whether setting i is there, its transition stays and its element is kept.
-fn setting_stays<V: View>(view: &V, marks: &Marks, i: usize) -> bool
-    requires { Fit (V.View.fits view.now) (V.View.rows view.now) }
-    ensures { result ≡ is (setting_at (V.View.rows view.now) i) (keeps_setting (kept_of marks.now) (V.View.rows view.now)) }
-{
-    setting(view, i).is_some_and(|x| {
-        transition_stays(view, marks, x.transition as usize)
-            && marks.keeps(Thing::Element(x.element))
-    })
-}
-
-// Whether a row of a section other than the components stays.
-fn stays<V: View>(view: &V, marks: &Marks, set: QuestionSet, section: usize, row: u8) -> bool
-    requires fit { Fit (V.View.fits view.now) (V.View.rows view.now) }
-    requires keeps { KeepsFor (V.View.rows view.now) set marks.now }
-    ensures { result ≡ row_stays (kept_of marks.now) (chosen_in set) (V.View.rows view.now) section row }
-{
-    let i = row as usize;
-    match section {
-        1 => element(view, i).is_some() && marks.keeps(Thing::Element(row)),
-        2 => event(view, i).is_some() && marks.keeps(Thing::Event(row)),
-        3 => node(view, i).is_some() && marks.keeps_node(i),
-        4 => flow(view, i).is_some_and(|x| marks.keeps(Thing::Element(x.port))),
-        5 => connection_stays(view, marks, i),
-        6 => transition_stays(view, marks, i),
-        7 => setting_stays(view, marks, i),
-        8 => question(view, i).is_some() && is_chosen(set, i),
-        _ => false,
+impl<'a, V: View> Keeping<'a, V> {
+    // Whether transition t is there and its from mode is kept.
+    fn transition_stays(&self, t: usize) -> bool
+        requires { Fit (V.View.fits self.now.view.now) (V.View.rows self.now.view.now) }
+        ensures { result ≡ is (transition_at (V.View.rows self.now.view.now) t) (keeps_from (kept_of self.now.marks.now)) }
+    {
+        transition(self.view, t).is_some_and(|x| self.marks.keeps(Thing::Mode(x.component, x.from)))
     }
-}
 
-// For each row of a section whether it stays.
-fn staying_of<V: View>(view: &V, marks: &Marks, set: QuestionSet, section: usize) -> [bool; ROWS]
-    requires fit { Fit (V.View.fits view.now) (V.View.rows view.now) }
-    requires keeps { KeepsFor (V.View.rows view.now) set marks.now }
-    ensures { (i : ℕ) → i < 128 → slice_index_or result i false ≡ row_stays (kept_of marks.now) (chosen_in set) (V.View.rows view.now) section i }
-{
-    let mut rows = [false; ROWS];
-    for (row, stay) in rows.iter_mut().enumerate() {
-        *stay = stays(view, marks, set, section, row as u8);
+    // Whether connection i is there and both its events are kept.
+    fn connection_stays(&self, i: usize) -> bool
+        requires { Fit (V.View.fits self.now.view.now) (V.View.rows self.now.view.now) }
+        ensures { result ≡ is (connection_at (V.View.rows self.now.view.now) i) (keeps_events (kept_of self.now.marks.now)) }
+    {
+        connection(self.view, i).is_some_and(|x| {
+            self.marks.keeps(Thing::Event(x.out_event))
+                && self.marks.keeps(Thing::Event(x.in_event))
+        })
     }
-    rows
-}
 
-// For each row of each section whether it stays.
-fn staying_rows<V: View>(view: &V, marks: &Marks, set: QuestionSet) -> [[bool; ROWS]; SECTIONS]
-    requires fit { Fit (V.View.fits view.now) (V.View.rows view.now) }
-    requires keeps { KeepsFor (V.View.rows view.now) set marks.now }
-    ensures { (section i : ℕ) → section < 9 → i < 128 → slice_index_or (slice_index_or result section []) i false ≡ row_stays (kept_of marks.now) (chosen_in set) (V.View.rows view.now) section i }
-{
-    let mut sections = [[false; ROWS]; SECTIONS];
-    for (section, rows) in sections.iter_mut().enumerate() {
-        *rows = staying_of(view, marks, set, section);
+    // Whether setting i is there, its transition stays and its element is kept.
+    fn setting_stays(&self, i: usize) -> bool
+        requires { Fit (V.View.fits self.now.view.now) (V.View.rows self.now.view.now) }
+        ensures { result ≡ is (setting_at (V.View.rows self.now.view.now) i) (keeps_setting (kept_of self.now.marks.now) (V.View.rows self.now.view.now)) }
+    {
+        // With is_some_and what the method ensures is not proved, since the closure would call a method with a requires.
+        let Some(x) = setting(self.view, i) else {
+            return false;
+        };
+        self.transition_stays(x.transition as usize) && self.marks.keeps(Thing::Element(x.element))
     }
-    sections
+
+    // Whether a row of a section other than the components stays.
+    fn stays(&self, section: usize, row: u8) -> bool
+        requires fit { Fit (V.View.fits self.now.view.now) (V.View.rows self.now.view.now) }
+        requires keeps { KeepsFor (V.View.rows self.now.view.now) self.now.set self.now.marks.now }
+        ensures { result ≡ row_stays (kept_of self.now.marks.now) (chosen_in self.now.set) (V.View.rows self.now.view.now) section row }
+    {
+        let i = row as usize;
+        match section {
+            1 => element(self.view, i).is_some() && self.marks.keeps(Thing::Element(row)),
+            2 => event(self.view, i).is_some() && self.marks.keeps(Thing::Event(row)),
+            3 => node(self.view, i).is_some() && self.marks.keeps_node(i),
+            4 => flow(self.view, i).is_some_and(|x| self.marks.keeps(Thing::Element(x.port))),
+            5 => self.connection_stays(i),
+            6 => self.transition_stays(i),
+            7 => self.setting_stays(i),
+            8 => question(self.view, i).is_some() && is_chosen(self.set, i),
+            _ => false,
+        }
+    }
+
+    // For each row of a section whether it stays.
+    fn staying_of(&self, section: usize) -> [bool; ROWS]
+        requires fit { Fit (V.View.fits self.now.view.now) (V.View.rows self.now.view.now) }
+        requires keeps { KeepsFor (V.View.rows self.now.view.now) self.now.set self.now.marks.now }
+        ensures { (i : ℕ) → i < 128 → slice_index_or result i false ≡ row_stays (kept_of self.now.marks.now) (chosen_in self.now.set) (V.View.rows self.now.view.now) section i }
+    {
+        let mut rows = [false; ROWS];
+        for (row, stay) in rows.iter_mut().enumerate() {
+            *stay = self.stays(section, row as u8);
+        }
+        rows
+    }
+
+    // For each row of each section whether it stays.
+    fn staying_rows(&self) -> [[bool; ROWS]; SECTIONS]
+        requires fit { Fit (V.View.fits self.now.view.now) (V.View.rows self.now.view.now) }
+        requires keeps { KeepsFor (V.View.rows self.now.view.now) self.now.set self.now.marks.now }
+        ensures { (section i : ℕ) → section < 9 → i < 128 → slice_index_or (slice_index_or result section []) i false ≡ row_stays (kept_of self.now.marks.now) (chosen_in self.now.set) (V.View.rows self.now.view.now) section i }
+    {
+        let mut sections = [[false; ROWS]; SECTIONS];
+        for (section, rows) in sections.iter_mut().enumerate() {
+            *rows = self.staying_of(section);
+        }
+        sections
+    }
 }
 
 impl Tables {
@@ -99,7 +111,12 @@ impl Tables {
         ensures { MatchResult result (λ t. TablesFit (V.View.rows view.now) t × (t.set ≡ set)) (λ f. cut_fault (V.View.rows view.now) set ≡ Some f) }
     {
         let marks = kept_things(view, set)?;
-        let rows = staying_rows(view, &marks, set);
+        let keeping = Keeping {
+            view,
+            marks: &marks,
+            set,
+        };
+        let rows = keeping.staying_rows();
         Ok(Tables { set, marks, rows })
     }
 
