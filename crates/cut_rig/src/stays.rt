@@ -19,75 +19,92 @@ use sheet::sizes::{
 use view::typed::row;
 use view::view::View;
 
-// Whether transition t is there and its from mode is kept.
-fn transition_stays<V: View>(view: &V, marks: &Marks, t: usize) -> bool
-    ensures { result ≡ is (transition_at (V.View.rows view.now) t) (keeps_from (kept_of marks.now)) }
-{
-    row(view, t).is_some_and(|x: Transition| marks.keeps(Thing::Mode(x.component, x.from)))
+// What decides which rows stay: the rows, the marks of what is kept of them, and the set of questions.
+#[derive(Drop)]
+struct Keeping<'a, V: View> {
+    view: &'a V,
+    marks: &'a Marks,
+    set: QuestionSet,
+    ghost keeps: { KeepsFor (V.View.rows view.now) set marks.now },
 }
 
-// Whether connection i is there and both its events are kept.
-fn connection_stays<V: View>(view: &V, marks: &Marks, i: usize) -> bool
-    ensures { result ≡ is (connection_at (V.View.rows view.now) i) (keeps_events (kept_of marks.now)) }
-{
-    row(view, i).is_some_and(|x: Connection| {
-        marks.keeps(Thing::Event(x.out_event)) && marks.keeps(Thing::Event(x.in_event))
-    })
-}
+impl<'a, V: View> Keeping<'a, V> {
+    // Whether transition t is there and its from mode is kept.
+    fn transition_stays(&self, t: usize) -> bool
+        ensures { result ≡ is (transition_at (V.View.rows self.now.view.now) t) (keeps_from (kept_of self.now.marks.now)) }
+    {
+        row(self.view, t).is_some_and(|x: Transition| self.marks.keeps(Thing::Mode(x.component, x.from)))
+    }
 
-// Whether setting i is there, its transition stays and its element is kept.
-fn setting_stays<V: View>(view: &V, marks: &Marks, i: usize) -> bool
-    ensures { result ≡ is (setting_at (V.View.rows view.now) i) (keeps_setting (kept_of marks.now) (V.View.rows view.now)) }
-{
-    row(view, i).is_some_and(|x: Setting| {
-        transition_stays(view, marks, usize::from(x.transition))
-            && marks.keeps(Thing::Element(x.element))
-    })
-}
+    // Whether connection i is there and both its events are kept.
+    fn connection_stays(&self, i: usize) -> bool
+        ensures { result ≡ is (connection_at (V.View.rows self.now.view.now) i) (keeps_events (kept_of self.now.marks.now)) }
+    {
+        row(self.view, i).is_some_and(|x: Connection| {
+            self.marks.keeps(Thing::Event(x.out_event))
+                && self.marks.keeps(Thing::Event(x.in_event))
+        })
+    }
 
-// Whether a row of a section other than the components stays.
-fn stays<V: View>(view: &V, marks: &Marks, set: QuestionSet, section: usize, number: u8) -> bool
-    requires { KeepsFor (V.View.rows view.now) set marks.now }
-    ensures { result ≡ row_stays (kept_of marks.now) (chosen_in set) (V.View.rows view.now) section number }
-{
-    let i = usize::from(number);
-    match section {
-        ELEMENTS => {
-            row::<_, Element, _>(view, i).is_some() && marks.keeps(Thing::Element(number))
+    // Whether setting i is there, its transition stays and its element is kept.
+    fn setting_stays(&self, i: usize) -> bool
+        ensures { result ≡ is (setting_at (V.View.rows self.now.view.now) i) (keeps_setting (kept_of self.now.marks.now) (V.View.rows self.now.view.now)) }
+    {
+        row(self.view, i).is_some_and(|x: Setting| {
+            self.transition_stays(usize::from(x.transition))
+                && self.marks.keeps(Thing::Element(x.element))
+        })
+    }
+
+    // Whether a row of a section other than the components stays.
+    fn stays(&self, section: usize, number: u8) -> bool
+        ensures { result ≡ row_stays (kept_of self.now.marks.now) (chosen_in self.now.set) (V.View.rows self.now.view.now) section number }
+    {
+        let i = usize::from(number);
+        match section {
+            ELEMENTS => {
+                row::<_, Element, _>(self.view, i).is_some()
+                    && self.marks.keeps(Thing::Element(number))
+            }
+            EVENTS => {
+                row::<_, Event, _>(self.view, i).is_some()
+                    && self.marks.keeps(Thing::Event(number))
+            }
+            NODES => row::<_, Node, _>(self.view, i).is_some() && self.marks.keeps_node(i),
+            FLOWS => {
+                row(self.view, i).is_some_and(|x: Flow| self.marks.keeps(Thing::Element(x.port)))
+            }
+            CONNECTIONS => self.connection_stays(i),
+            TRANSITIONS => self.transition_stays(i),
+            SETTINGS => self.setting_stays(i),
+            QUESTIONS => {
+                row::<_, Question, _>(self.view, i).is_some() && is_chosen(self.set, i)
+            }
+            _ => false,
         }
-        EVENTS => row::<_, Event, _>(view, i).is_some() && marks.keeps(Thing::Event(number)),
-        NODES => row::<_, Node, _>(view, i).is_some() && marks.keeps_node(i),
-        FLOWS => row(view, i).is_some_and(|x: Flow| marks.keeps(Thing::Element(x.port))),
-        CONNECTIONS => connection_stays(view, marks, i),
-        TRANSITIONS => transition_stays(view, marks, i),
-        SETTINGS => setting_stays(view, marks, i),
-        QUESTIONS => row::<_, Question, _>(view, i).is_some() && is_chosen(set, i),
-        _ => false,
     }
-}
 
-// For each row of a section whether it stays.
-fn staying_of<V: View>(view: &V, marks: &Marks, set: QuestionSet, section: usize) -> [bool; ROWS]
-    requires { KeepsFor (V.View.rows view.now) set marks.now }
-    ensures { (i : ℕ) → i < 128 → slice_index_or result i false ≡ row_stays (kept_of marks.now) (chosen_in set) (V.View.rows view.now) section i }
-{
-    let mut rows = [false; ROWS];
-    for (row, stay) in rows.iter_mut().enumerate() {
-        *stay = stays(view, marks, set, section, row as u8);
+    // For each row of a section whether it stays.
+    fn staying_of(&self, section: usize) -> [bool; ROWS]
+        ensures { (i : ℕ) → i < 128 → slice_index_or result i false ≡ row_stays (kept_of self.now.marks.now) (chosen_in self.now.set) (V.View.rows self.now.view.now) section i }
+    {
+        let mut rows = [false; ROWS];
+        for (row, stay) in rows.iter_mut().enumerate() {
+            *stay = self.stays(section, row as u8);
+        }
+        rows
     }
-    rows
-}
 
-// For each row of each section whether it stays.
-fn staying_rows<V: View>(view: &V, marks: &Marks, set: QuestionSet) -> [[bool; ROWS]; SECTIONS]
-    requires { KeepsFor (V.View.rows view.now) set marks.now }
-    ensures { (section i : ℕ) → section < 9 → i < 128 → slice_index_or (slice_index_or result section []) i false ≡ row_stays (kept_of marks.now) (chosen_in set) (V.View.rows view.now) section i }
-{
-    let mut sections = [[false; ROWS]; SECTIONS];
-    for (section, rows) in sections.iter_mut().enumerate() {
-        *rows = staying_of(view, marks, set, section);
+    // For each row of each section whether it stays.
+    fn staying_rows(&self) -> [[bool; ROWS]; SECTIONS]
+        ensures { (section i : ℕ) → section < 9 → i < 128 → slice_index_or (slice_index_or result section []) i false ≡ row_stays (kept_of self.now.marks.now) (chosen_in self.now.set) (V.View.rows self.now.view.now) section i }
+    {
+        let mut sections = [[false; ROWS]; SECTIONS];
+        for (section, rows) in sections.iter_mut().enumerate() {
+            *rows = self.staying_of(section);
+        }
+        sections
     }
-    sections
 }
 
 impl Tables {
@@ -96,7 +113,12 @@ impl Tables {
         ensures { MatchResult result (λ t. TablesFit (V.View.rows view.now) t × (t.set ≡ set)) (λ f. cut_fault (V.View.rows view.now) set ≡ Some f) }
     {
         let marks = kept_things(view, set)?;
-        let rows = staying_rows(view, &marks, set);
+        let keeping = Keeping {
+            view,
+            marks: &marks,
+            set,
+        };
+        let rows = keeping.staying_rows();
         Ok(Tables { set, marks, rows })
     }
 

@@ -4,7 +4,7 @@ use Rattle.std.proofs.lemmas.Bool.{cases_lt}
 use Rattle.closing.specs.Marks.{kept_of}
 use Rattle.cutting.specs.CutCells.{row_stays}
 use Rattle.cutting.specs.Kept.{chosen_in}
-use Rattle.cut_rig.proofs.stays.staying_rows.Goals as goal
+use Rattle.cut_rig.proofs.stays.Keeping.staying_rows.Goals as goal
 
 pub loop-section-preserved : goal.loop-section-preserved
 loop-section-preserved g c =
@@ -12,7 +12,7 @@ loop-section-preserved g c =
     let n = c.loop-section.section in
     let long = c.loop-section.invariant.long in
     let rows = c.staying_of.result in
-    let stay : ℕ → ℕ → Bool = row_stays (kept_of c.args.marks.now) (chosen_in c.args.set) (g.V.View.rows c.args.view.now) in
+    let stay : ℕ → ℕ → Bool = row_stays (kept_of c.args.self.now.marks.now) (chosen_in c.args.self.now.set) (g.V.View.rows c.args.self.now.view.now) in
     record {
       long = length-set sections n rows ∙ long;
       made = λ section i l few.
