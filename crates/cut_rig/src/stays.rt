@@ -33,7 +33,9 @@ impl<'a, V: View> Keeping<'a, V> {
     fn transition_stays(&self, t: usize) -> bool
         ensures { result ≡ is (transition_at (V.View.rows self.now.view.now) t) (keeps_from (kept_of self.now.marks.now)) }
     {
-        row(self.view, t).is_some_and(|x: Transition| self.marks.keeps(Thing::Mode(x.component, x.from)))
+        row(self.view, t).is_some_and(|x: Transition| self
+            .marks
+            .keeps(Thing::Mode(x.component, x.from)))
     }
 
     // Whether connection i is there and both its events are kept.
@@ -50,10 +52,11 @@ impl<'a, V: View> Keeping<'a, V> {
     fn setting_stays(&self, i: usize) -> bool
         ensures { result ≡ is (setting_at (V.View.rows self.now.view.now) i) (keeps_setting (kept_of self.now.marks.now) (V.View.rows self.now.view.now)) }
     {
-        row(self.view, i).is_some_and(|x: Setting| {
-            self.transition_stays(usize::from(x.transition))
-                && self.marks.keeps(Thing::Element(x.element))
-        })
+        let Some(x) = row::<_, Setting, _>(self.view, i) else {
+            return false;
+        };
+        self.transition_stays(usize::from(x.transition))
+            && self.marks.keeps(Thing::Element(x.element))
     }
 
     // Whether a row of a section other than the components stays.
@@ -67,8 +70,7 @@ impl<'a, V: View> Keeping<'a, V> {
                     && self.marks.keeps(Thing::Element(number))
             }
             EVENTS => {
-                row::<_, Event, _>(self.view, i).is_some()
-                    && self.marks.keeps(Thing::Event(number))
+                row::<_, Event, _>(self.view, i).is_some() && self.marks.keeps(Thing::Event(number))
             }
             NODES => row::<_, Node, _>(self.view, i).is_some() && self.marks.keeps_node(i),
             FLOWS => {
@@ -77,9 +79,7 @@ impl<'a, V: View> Keeping<'a, V> {
             CONNECTIONS => self.connection_stays(i),
             TRANSITIONS => self.transition_stays(i),
             SETTINGS => self.setting_stays(i),
-            QUESTIONS => {
-                row::<_, Question, _>(self.view, i).is_some() && is_chosen(self.set, i)
-            }
+            QUESTIONS => { row::<_, Question, _>(self.view, i).is_some() && is_chosen(self.set, i) }
             _ => false,
         }
     }
