@@ -1,13 +1,12 @@
 -- A row tried by its reasons, and by the tries of the definitions.
-use Rattle.std.proofs.Common.{◌≡◌, ℕ, Bool, true, false, Some, None, Ok, Err, Result, sym, refl, ap, ◌∙◌}
+use Rattle.std.proofs.Common.{◌≡◌, ℕ, Bool, true, false, Some, None, Ok, Err, refl}
 use Rattle.sheet.specs.Entry.{Entry}
 use Rattle.sheet.specs.declared.refusal.Reason.{Reason}
-use Rattle.sheet.specs.declared.refusal.Reason.TheVariants.{WrongByReference, Clash, ForbiddenResting}
 use Rattle.sheet.specs.declared.refusal.Refusal.{Refusal}
 use Rattle.sheet.specs.Tries.{Try, must, or_else, first_fault}
 use Rattle.sheet.specs.Rules.{Checks}
 use Rattle.sheet.specs.Accept.{refusal, entry_tries}
-use Rattle.rules.specs.Walk.{by_reason, broken, row_reason}
+use Rattle.rules.specs.Walk.{by_reason, row_reason}
 
 module _ (s i : ℕ) where
   -- a reason, at row i of section s

@@ -1,6 +1,6 @@
 -- A state of a sheet: a mode for each component and a value for each held element.
 use Rattle.std.specs.Prelude.{◌≡◌, ℕ, ◌≤◌, Bool, true, false, cond, not, ◌&&◌, List, map, length, ℤ, pos, Some, int_le, slice_index, slice_index_or, slice_set, Err, None, Ok}
-use Rattle.sheet.specs.Entry.{Entry, malformed}
+use Rattle.sheet.specs.Entry.{Entry}
 use Rattle.sheet.specs.declared.rows.Component.{Component}
 use Rattle.sheet.specs.declared.rows.Element.{Element}
 use Rattle.sheet.specs.Lookup.{component_at, element_at, is}

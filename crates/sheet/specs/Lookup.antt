@@ -1,7 +1,7 @@
 -- The rows of a sheet by their numbers, as typed values. A row that is missing, blank or faulty is not there.
 use Rattle.std.specs.Prelude.{ℕ, Bool, false, List, Some, None, Option, Err, Ok}
 use Rattle.std.specs.List.{slice_get}
-use Rattle.sheet.specs.Entry.{Entry, malformed}
+use Rattle.sheet.specs.Entry.{Entry}
 use Rattle.sheet.specs.declared.rows.Component.{Component}
 use Rattle.sheet.specs.declared.rows.Connection.{Connection}
 use Rattle.sheet.specs.declared.rows.Element.{Element}

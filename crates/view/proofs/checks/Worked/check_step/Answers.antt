@@ -1,4 +1,4 @@
-use Rattle.std.proofs.Common.{◌≡◌, Some, None, Ok, Option, ok_or, refl, rules}
+use Rattle.std.proofs.Common.{◌≡◌, Some, None, Ok, Option, ok_or}
 use Rattle.running.specs.declared.kinds.StepRefusal.{StepRefusal}
 use Rattle.running.specs.declared.kinds.StepRefusal.TheVariants.{NoTransition}
 use Rattle.sheet.specs.declared.rows.Transition.{Transition}
