@@ -30,7 +30,8 @@ pub fn compare<P: Rig, W: Rig>(pile: &mut P, whole: &mut W, calls: &[RunCall]) -
     agreed & last
 }
 
-// Whether both tell the same before a call, and reply alike to it.
+// Whether both tell the same before a call, and reply alike to it. Both rigs are lent to be changed: a struct of the two
+// would be taken apart for each call, and what fits changes with it.
 fn is_same_turn<P: Rig, W: Rig>(pile: &mut P, whole: &mut W, call: RunCall) -> bool
     requires pile { P.Rig.fits pile.old }
     requires whole { W.Rig.fits whole.old }

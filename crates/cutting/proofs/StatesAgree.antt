@@ -2,7 +2,7 @@
 use Rattle.std.proofs.Common.{◌≡◌, ℕ, ◌≤◌, Bool, true, false, cond, not, pos, Some, None, Option, sym, refl, ap, ◌∙◌, subst, ⊎_elim, arith, Err, Ok}
 use Rattle.std.proofs.lemmas.Bool.{cases_Bool, cond-true, cond-false, cond_both}
 use Rattle.std.specs.Option.{option_map}
-use Rattle.sheet.specs.Entry.{Entry, malformed}
+use Rattle.sheet.specs.Entry.{Entry}
 use Rattle.sheet.specs.declared.rows.Component.{Component}
 use Rattle.sheet.specs.declared.rows.Element.{Element}
 use Rattle.sheet.specs.Accept.{accepted}

@@ -4,7 +4,7 @@ use lib.Lanes.{zip2}
 use Rattle.std.proofs.lemmas.List.{length-map, length-take-le, length-drop, get_or-map, get_or_append_left, get_or-append_right, get_or-take, get_or-drop, get_or_past, drop-set-lt, drop-set-add, take-set-le}
 use Rattle.std.proofs.lemmas.Simd.{get_or-zip2}
 use Rattle.std.proofs.lemmas.Bool.{true≢false, cases_lt}
-use Rattle.sheet.specs.Entry.{Entry, malformed}
+use Rattle.sheet.specs.Entry.{Entry}
 use Rattle.sheet.specs.declared.rows.Element.{Element}
 use Rattle.sheet.specs.Lookup.{held, is}
 use Rattle.sheet.specs.Rules.{is_port}

@@ -1,7 +1,7 @@
 -- The image of a state: the fields, one behind the other, lowest bit first, eight bits to a byte.
 use Rattle.std.specs.Prelude.{ℕ, ◌+◌, ◌*◌, ◌^◌, cond, List, [], ◌∷◌, ◌++◌, ℤ, ◌-ℤ◌, unsigned_abs, Err, None, Ok, Some}
 use Rattle.std.specs.Simd.Lanes.{zip2}
-use Rattle.sheet.specs.Entry.{Entry, malformed}
+use Rattle.sheet.specs.Entry.{Entry}
 use Rattle.sheet.specs.declared.rows.Component.{Component}
 use Rattle.sheet.specs.declared.rows.Element.{Element}
 use Rattle.sheet.specs.Rules.{is_port}

@@ -2,7 +2,7 @@
 use Rattle.std.specs.Prelude.{ℕ, ◌+◌, ◌/◌, ◌%◌, ◌^◌, ◌<◌, cond, List, [], ◌∷◌, ◌++◌, map, length, take, drop, ℤ, pos, ◌+ℤ◌, Err, None, Ok, Some}
 use Rattle.std.specs.Simd.Lanes.{zip2}
 use Rattle.std.specs.List.{AllZip}
-use Rattle.sheet.specs.Entry.{Entry, malformed}
+use Rattle.sheet.specs.Entry.{Entry}
 use Rattle.sheet.specs.declared.rows.Element.{Element}
 use Rattle.sheet.specs.Rules.{is_port}
 use Rattle.sheet.specs.Sections.{Sheet, rows, components, elements}

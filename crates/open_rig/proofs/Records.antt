@@ -1,8 +1,8 @@
 -- Records that change one by one.
-use Rattle.std.proofs.Common.{◌≡◌, ℕ, zero, suc, true, false, not, ◌&&◌, List, map, length, get_or, set, replicate, ℤ, pos, sym, refl, ap, ◌∙◌, ⊎_elim, w32, SFits, to_z, of_z}
+use Rattle.std.proofs.Common.{◌≡◌, ℕ, zero, suc, true, not, ◌&&◌, List, map, get_or, set, replicate, ℤ, pos, sym, refl, ap, ◌∙◌, ⊎_elim, w32, SFits, to_z, of_z}
 use Rattle.std.proofs.lemmas.Bool.{and_parts, false≢true, cases_eq}
 use Rattle.std.proofs.lemmas.Int.{to_z-of_z}
-use Rattle.std.proofs.lemmas.List.{map-set, length-set, length-map, get_or-set_other}
+use Rattle.std.proofs.lemmas.List.{map-set, length-set, get_or-set_other}
 use Rattle.sheet.specs.Lookup.{element_at}
 use Rattle.sheet.specs.Rules.{is_port}
 use Rattle.sheet.specs.Sections.{Sheet}

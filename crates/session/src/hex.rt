@@ -15,6 +15,7 @@ pub fn hex_bytes(heap: Global, text: &[u8]) -> Result<Option<Vec<u8>>, AllocErro
         return Ok(None);
     }
     let mut bytes = Vec::new(heap);
+    // A pattern takes two digits at a time; pieces of two would be taken apart by the same pattern.
     let mut left = text;
     while let [high, low, rest @ ..] = left {
         let Some(byte) = byte_of_digits(*high, *low) else {
@@ -42,6 +43,7 @@ pub fn hex_text(heap: Global, bytes: &[u8]) -> Result<String, AllocError>
 fn is_hex(text: &[u8]) -> bool
     ensures { result ≡ is_some (hex_of text.now) }
 {
+    // A pattern takes two digits at a time; pieces of two would be taken apart by the same pattern.
     let mut left = text;
     while let [high, low, rest @ ..] = left {
         if byte_of_digits(*high, *low).is_none() {
@@ -60,6 +62,7 @@ fn byte_of_digits(high: u8, low: u8) -> Option<u8>
     Some(high * 16 + low)
 }
 
+// By cases: `to_digit` takes a char and gives a u32, two conversions more than the table has lines.
 fn digit_value(c: u8) -> Option<u8>
     ensures { result ≡ (if nat_lt (digit_value c) 16 then Some (digit_value c) else None) }
 {
@@ -71,6 +74,7 @@ fn digit_value(c: u8) -> Option<u8>
     }
 }
 
+// By cases: `from_digit` takes a u32 and gives an option, though each digit here has a char.
 fn digit_char(d: u8) -> char
     requires { d < 16 }
     ensures { result ≡ digit_char d }

@@ -6,4 +6,3 @@ pub mod hex;
 pub mod line;
 pub mod perform;
 pub mod reply;
-

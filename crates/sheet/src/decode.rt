@@ -1,14 +1,12 @@
 // Rows as their bytes, read as typed values.
 
 ghost use Rattle.std.specs.Prelude.{◌≡◌, ℕ, ◌+◌, ◌*◌, ◌%◌, ◌<◌, List, Option, Result, slice_index_or};
-ghost use Rattle.sheet.specs.declared.refusal.Reason.TheVariants.{WrongByItself};
 ghost use Rattle.sheet.specs.declared.rows.Malformed.{Malformed};
 ghost use Rattle.sheet.specs.Lookup.{there};
-ghost use Rattle.sheet.specs.Sections.{shape, shapes, width_of};
-ghost use Rattle.sheet.specs.Typed.{number, mode_set, zeros, listing, kind_numbered, direction_numbered, component_entry, element_entry, event_entry, node_entry, flow_entry, connection_entry, transition_entry, setting_entry, question_entry};
+ghost use Rattle.sheet.specs.Sections.{shape, shapes};
+ghost use Rattle.sheet.specs.Typed.{number, mode_set, zeros, listing, component_entry, element_entry, event_entry, node_entry, flow_entry, connection_entry, transition_entry, setting_entry, question_entry};
 ghost use Rattle.std.proofs.Common.{rules};
 
-use crate::refusal::Reason;
 use crate::rows::{
     Component, Connection, Direction, Element, Event, Flow, Kind, Malformed, ModeSet, Node,
     Question, Setting, Transition,
@@ -42,14 +40,6 @@ fn lists_modes(set: ModeSet) -> bool
     set != 0 && set % 2 == 0
 }
 
-impl From<Malformed> for Reason {
-    ghost from_gives = { λ _ y. y ≡ WrongByItself };
-
-    fn from(_e: Malformed) -> Reason {
-        Reason::WrongByItself
-    }
-}
-
 // A typed value of a row of N bytes.
 pub trait FromRow<const N: usize>: Copy {
     // The section that its rows stand in.
@@ -71,11 +61,7 @@ pub trait FromRow<const N: usize>: Copy {
     fn from_row(row: &[u8; N]) -> Result<Option<Self>, Malformed>
         ensures { result ≡ entry row.now };
 
-    ghost inside: { SECTION < 9 };
-
     ghost shaped: { slice_index_or shapes SECTION (shape 0 0 0) ≡ shape N LEAST MOST };
-
-    ghost wide: { width_of SECTION ≡ N };
 
     ghost some: { 0 < N };
 }
@@ -102,11 +88,7 @@ impl FromRow<COMPONENT_BYTES> for Component {
 
     ghost entry = { component_entry };
 
-    ghost inside = { Prim.search rules };
-
     ghost shaped = { Prim.search rules };
-
-    ghost wide = { Prim.search rules };
 
     ghost some = { Prim.search rules };
 
@@ -116,20 +98,6 @@ impl FromRow<COMPONENT_BYTES> for Component {
             Ok(Some(Component { modes, start }))
         } else {
             Err(Malformed)
-        }
-    }
-}
-
-impl TryFrom<u8> for Kind {
-    type Error = Malformed;
-
-    ghost try_from_gives = { λ n r. r ≡ kind_numbered n };
-
-    fn try_from(number: u8) -> Result<Kind, Malformed> {
-        match number {
-            1 => Ok(Kind::Held),
-            2 => Ok(Kind::Port),
-            _ => Err(Malformed),
         }
     }
 }
@@ -149,11 +117,7 @@ impl FromRow<ELEMENT_BYTES> for Element {
 
     ghost entry = { element_entry };
 
-    ghost inside = { Prim.search rules };
-
     ghost shaped = { Prim.search rules };
-
-    ghost wide = { Prim.search rules };
 
     ghost some = { Prim.search rules };
 
@@ -180,20 +144,6 @@ impl FromRow<ELEMENT_BYTES> for Element {
     }
 }
 
-impl TryFrom<u8> for Direction {
-    type Error = Malformed;
-
-    ghost try_from_gives = { λ n r. r ≡ direction_numbered n };
-
-    fn try_from(number: u8) -> Result<Direction, Malformed> {
-        match number {
-            1 => Ok(Direction::Out),
-            2 => Ok(Direction::In),
-            _ => Err(Malformed),
-        }
-    }
-}
-
 impl FromRow<EVENT_BYTES> for Event {
     const SECTION: usize = EVENTS;
 
@@ -209,11 +159,7 @@ impl FromRow<EVENT_BYTES> for Event {
 
     ghost entry = { event_entry };
 
-    ghost inside = { Prim.search rules };
-
     ghost shaped = { Prim.search rules };
-
-    ghost wide = { Prim.search rules };
 
     ghost some = { Prim.search rules };
 
@@ -245,11 +191,7 @@ impl FromRow<NODE_BYTES> for Node {
 
     ghost entry = { node_entry };
 
-    ghost inside = { Prim.search rules };
-
     ghost shaped = { Prim.search rules };
-
-    ghost wide = { Prim.search rules };
 
     ghost some = { Prim.search rules };
 
@@ -288,11 +230,7 @@ impl FromRow<FLOW_BYTES> for Flow {
 
     ghost entry = { flow_entry };
 
-    ghost inside = { Prim.search rules };
-
     ghost shaped = { Prim.search rules };
-
-    ghost wide = { Prim.search rules };
 
     ghost some = { Prim.search rules };
 
@@ -325,11 +263,7 @@ impl FromRow<CONNECTION_BYTES> for Connection {
 
     ghost entry = { connection_entry };
 
-    ghost inside = { Prim.search rules };
-
     ghost shaped = { Prim.search rules };
-
-    ghost wide = { Prim.search rules };
 
     ghost some = { Prim.search rules };
 
@@ -367,11 +301,7 @@ impl FromRow<TRANSITION_BYTES> for Transition {
 
     ghost entry = { transition_entry };
 
-    ghost inside = { Prim.search rules };
-
     ghost shaped = { Prim.search rules };
-
-    ghost wide = { Prim.search rules };
 
     ghost some = { Prim.search rules };
 
@@ -409,11 +339,7 @@ impl FromRow<SETTING_BYTES> for Setting {
 
     ghost entry = { setting_entry };
 
-    ghost inside = { Prim.search rules };
-
     ghost shaped = { Prim.search rules };
-
-    ghost wide = { Prim.search rules };
 
     ghost some = { Prim.search rules };
 
@@ -444,11 +370,7 @@ impl FromRow<QUESTION_BYTES> for Question {
 
     ghost entry = { question_entry };
 
-    ghost inside = { Prim.search rules };
-
     ghost shaped = { Prim.search rules };
-
-    ghost wide = { Prim.search rules };
 
     ghost some = { Prim.search rules };
 

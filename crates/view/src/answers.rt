@@ -37,7 +37,7 @@ pub fn answer_to<V: View>(view: &V, q: usize) -> Result<bool, NoQuestion>
     Ok(truth_at(&table, x.node))
 }
 
-// The mode of a component at the start; 0 where there is none.
+// The mode of a component at the start; 0 where there is none, as in a state.
 pub fn start_mode<V: View>(view: &V, c: usize) -> u8
     ensures { result ≡ mode_of (start_state (V.View.rows view.now)) c }
 {
@@ -58,7 +58,7 @@ pub fn rest_value<V: View>(view: &V, e: usize) -> Option<i32>
     }
 }
 
-// The value of a held element at the start; 0 where there is none.
+// The value of a held element at the start; 0 where there is none, as in a state.
 pub fn start_value<V: View>(view: &V, e: usize) -> i32
     ensures { result ≡ held_of (start_state (V.View.rows view.now)) e }
 {

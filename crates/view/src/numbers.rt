@@ -5,7 +5,7 @@ ghost use Rattle.running.specs.Values.{bring, plus, minus};
 
 use sheet::sizes::{GREATEST_NUMBER, LEAST_NUMBER};
 
-// The number, or the end of the range that is nearer to it.
+// The number, or the end of the range that is nearer to it. By cases: `clamp` asks that the ends are in order.
 pub(crate) fn bring_into(low: i32, high: i32, v: i32) -> i32
     ensures { result ≡ bring low high v }
 {

@@ -16,7 +16,7 @@ pub const ELEMENT_SLOTS: usize = 64;
 // A slot for each node that a sheet can have.
 pub const NODE_SLOTS: usize = 128;
 
-// What node n gives; the number 0 where the table has none.
+// What node n gives; the number 0 where the table has none, as in the definition of values.
 fn worth_at(table: &[Worth], n: u8) -> Worth
     ensures { result ≡ slice_index_or table.now n nothing }
 {
@@ -44,7 +44,7 @@ pub(crate) fn truth_at(table: &[Worth], n: u8) -> bool
     }
 }
 
-// The value of element e; 0 where there is none.
+// The value of element e; 0 where there is none, as in the definition of values.
 pub(crate) fn value_at(values: &[i32], e: usize) -> i32
     ensures { result ≡ slice_index_or values.now e (pos 0) }
 {

@@ -18,7 +18,7 @@ pub trait View {
     fn byte(&self, section: usize, row: usize, place: usize) -> Option<u8>
         ensures { result ≡ byte_of (rows self.now) section row place };
 
-    // The mode of a component; 0 where there is none.
+    // The mode of a component; 0 where there is none, as in a state.
     fn mode(&self, component: usize) -> u8
         ensures { result ≡ mode_of (state self.now) component };
 

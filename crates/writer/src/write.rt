@@ -9,10 +9,12 @@ ghost use Rattle.writer.specs.Written.{Written};
 use crate::fault::TooShort;
 use crate::filling::Filling;
 use rig::rig::Rig;
+use rig::seen::Seen;
 use sheet::sizes::{
     COMPONENT_BYTES, CONNECTION_BYTES, ELEMENT_BYTES, EVENT_BYTES, FLOW_BYTES, NODE_BYTES,
     QUESTION_BYTES, SECTIONS, SETTING_BYTES, TRANSITION_BYTES,
 };
+use view::view::View;
 
 // The bytes of a row of each section.
 const ROW_BYTES: [usize; SECTIONS] = [
@@ -28,45 +30,40 @@ const ROW_BYTES: [usize; SECTIONS] = [
 ];
 
 // The number of rows of a section.
-fn row_count<R: Rig>(rig: &R, section: usize) -> usize
-    requires fits { R.Rig.fits rig.now }
-    requires there { section < 9 }
-    ensures value { result ≡ length (rows (R.Rig.rows rig.now) section) }
+fn row_count<V: View>(view: &V, section: usize) -> usize
+    requires { section < 9 }
+    ensures value { result ≡ length (rows (V.View.rows view.now) section) }
     ensures few { result ≤ 128 }
 {
-    rig.count(section).unwrap_or(0)
+    view.count(section).unwrap_or(0)
 }
 
 // The bytes of a section.
-fn section_length<R: Rig>(rig: &R, section: usize) -> usize
-    requires fits { R.Rig.fits rig.now }
-    requires there { section < 9 }
-    ensures value { result ≡ length (section_bytes (rows (R.Rig.rows rig.now) section)) }
+fn section_length<V: View>(view: &V, section: usize) -> usize
+    requires { section < 9 }
+    ensures value { result ≡ length (section_bytes (rows (V.View.rows view.now) section)) }
     ensures few { result ≤ 1025 }
 {
-    1 + row_count(rig, section) * ROW_BYTES[section]
+    1 + row_count(view, section) * ROW_BYTES[section]
 }
 
 // The bytes of the sheet.
-fn sheet_length<R: Rig>(rig: &R) -> usize
-    requires { R.Rig.fits rig.now }
-    ensures { result ≡ length (bytes_of (R.Rig.rows rig.now)) }
+fn sheet_length<V: View>(view: &V) -> usize
+    ensures { result ≡ length (bytes_of (V.View.rows view.now)) }
 {
     (0..SECTIONS)
-        .map(|section| section_length(rig, section))
+        .map(|section| section_length(view, section))
         .sum()
 }
 
 impl Filling<'_> {
-    // Puts a row behind what is filled. A `for` over `(0..).map_while(..)` gets no proof: the terms that rattle itself writes
-    // for a closure over a generic rig are ill-typed there.
-    fn put_row<R: Rig>(&mut self, rig: &R, section: usize, row: usize)
-        requires fits { R.Rig.fits rig.now }
-        requires room { self.old.filled + length (slice_index_or (rows (R.Rig.rows rig.now) section) row []) ≤ length self.old.buffer.now }
-        ensures { Filled self.old (slice_index_or (rows (R.Rig.rows rig.now) section) row []) self.new }
+    // Puts a row behind what is filled.
+    fn put_row<V: View>(&mut self, view: &V, section: usize, row: usize)
+        requires { self.old.filled + length (slice_index_or (rows (V.View.rows view.now) section) row []) ≤ length self.old.buffer.now }
+        ensures { Filled self.old (slice_index_or (rows (V.View.rows view.now) section) row []) self.new }
     {
         for place in 0.. {
-            let Some(byte) = rig.byte(section, row, place) else {
+            let Some(byte) = view.byte(section, row, place) else {
                 return;
             };
             self.put(&[byte]);
@@ -74,16 +71,15 @@ impl Filling<'_> {
     }
 
     // Puts a section behind what is filled.
-    fn put_section<R: Rig>(&mut self, rig: &R, section: usize)
-        requires fits { R.Rig.fits rig.now }
+    fn put_section<V: View>(&mut self, view: &V, section: usize)
         requires there { section < 9 }
-        requires room { self.old.filled + length (section_bytes (rows (R.Rig.rows rig.now) section)) ≤ length self.old.buffer.now }
-        ensures { Filled self.old (section_bytes (rows (R.Rig.rows rig.now) section)) self.new }
+        requires room { self.old.filled + length (section_bytes (rows (V.View.rows view.now) section)) ≤ length self.old.buffer.now }
+        ensures { Filled self.old (section_bytes (rows (V.View.rows view.now) section)) self.new }
     {
-        let count = row_count(rig, section);
+        let count = row_count(view, section);
         self.put(&[count as u8]);
         for row in 0..count {
-            self.put_row(rig, section, row);
+            self.put_row(view, section, row);
         }
     }
 }
@@ -94,7 +90,8 @@ pub fn write<R: Rig>(rig: &R, out: &mut [u8]) -> Result<usize, TooShort>
     ensures written { Written (bytes_of (R.Rig.rows rig.now)) out.old out.new result }
     ensures reads_back { ReadsBack (R.Rig.rows rig.now) }
 {
-    let needed = sheet_length(rig);
+    let view = Seen { rig };
+    let needed = sheet_length(&view);
     if out.len() < needed {
         return Err(TooShort { needed });
     }
@@ -103,7 +100,7 @@ pub fn write<R: Rig>(rig: &R, out: &mut [u8]) -> Result<usize, TooShort>
         filled: 0,
     };
     for section in 0..SECTIONS {
-        filling.put_section(rig, section);
+        filling.put_section(&view, section);
     }
     Ok(filling.filled)
 }

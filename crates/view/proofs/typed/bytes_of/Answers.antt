@@ -1,6 +1,6 @@
-use Rattle.std.proofs.Common.{[], get_or, refl, ◌∙◌, arith}
+use Rattle.std.proofs.Common.{[], get_or, refl, ap, ◌∙◌, arith}
 use Rattle.std.proofs.lemmas.List.{length-replicate}
-use Rattle.sheet.specs.Sections.{rows}
+use Rattle.sheet.specs.Sections.{Shape, rows}
 use Rattle.view.proofs.Bytes.{taken_more, row_missing, row_whole}
 use Rattle.view.proofs.typed.bytes_of.Goals as goal
 
@@ -9,7 +9,7 @@ loop-place-init g c = record { long = length-replicate g.row.N 0; inside = omega
 
 pub returns-in_err-byte : goal.returns-in_err-byte
 returns-in_err-byte g c =
-    c.from_residual.ensures ∙ row_missing (g.V.View.rows c.args.view.now) g.R.FromRow.SECTION c.args.row g.row.N (g.met.V.View.accepts c.args.view.now) g.met.R.FromRow.wide c.loop-place.place c.loop-place-test.true (rw c.SECTION.ensures at c.in_err-byte.ensures)
+    c.from_residual.ensures ∙ row_missing (g.V.View.rows c.args.view.now) g.R.FromRow.SECTION c.args.row g.row.N (g.met.V.View.accepts c.args.view.now) (ap (λ (h : Shape). h.width) g.met.R.FromRow.shaped) c.loop-place.place c.loop-place-test.true (rw c.SECTION.ensures at c.in_err-byte.ensures)
 
 pub loop-place-preserved : goal.loop-place-preserved
 loop-place-preserved g c =
@@ -17,4 +17,4 @@ loop-place-preserved g c =
 
 pub returns : goal.returns
 returns g c =
-    row_whole (g.V.View.rows c.args.view.now) g.R.FromRow.SECTION c.args.row g.row.N (g.met.V.View.accepts c.args.view.now) g.met.R.FromRow.wide c.loop-place.byte-items c.loop-place.place g.met.R.FromRow.some c.loop-place-test.false c.loop-place.invariant
+    row_whole (g.V.View.rows c.args.view.now) g.R.FromRow.SECTION c.args.row g.row.N (g.met.V.View.accepts c.args.view.now) (ap (λ (h : Shape). h.width) g.met.R.FromRow.shaped) c.loop-place.byte-items c.loop-place.place g.met.R.FromRow.some c.loop-place-test.false c.loop-place.invariant

@@ -14,7 +14,7 @@ sum-requires-clause-fits g c =
 
 pub returns : goal.returns
 returns g c =
-    let s = g.R.Rig.rows c.args.rig.now in
+    let s = g.V.View.rows c.args.view.now in
     let lengths = λ (k : ℕ). length (section_bytes (rows s k)) in
     sum_from_yields_List {all = map lengths (range_with_len 0 9)} c.map.result c.sum.result c.sum.ensures.ran (YieldsList-from_map _ lengths (YieldsList-from_range 0 9 9 c.map.ensures.source refl) c.map.ensures.closure (λ x r q k. search rules))
-    ∙ sum_of_lengths s (g.met.R.Rig.sound c.args.rig.now c.requires).accepts
+    ∙ sum_of_lengths s (g.met.V.View.accepts c.args.view.now)

@@ -7,4 +7,4 @@ abbrev pub invariant-loop-place : goal.invariant-loop-place
 invariant-loop-place g l =
     (goal.iterator-loop-place g).can_next l.place-iterator
     × (goal.iterator-loop-place g).is_finite l.place-iterator
-    × Filled l.initial.self (take l.place-iterator.start (get_or (rows (g.R.Rig.rows l.rig) l.section) l.row [])) l.self
+    × Filled l.initial.self (take l.place-iterator.start (get_or (rows (g.V.View.rows l.view) l.section) l.row [])) l.self
