@@ -12,6 +12,7 @@ count() { # name, pattern
 }
 count '1 own enums'                       '^(pub(\([a-z]+\))? )?enum '
 count '1 sections as literals'            '(\.count|\.byte|row_stays|typed::<[^(]*>)\(([a-z]+, )?[0-9]|take_section::<[A-Z_]+>\([a-z]+, [0-9]|try_section::<[^(]*>\(sheet, [0-9]|section == [0-9]'
+count '1 sections by number'              'section: usize'
 count '1 arms on literal numbers'         '^ +[0-9]+ (if .*)?=> '
 count '1 refusals as numbers'             '\(u8, usize\)|number: u8,$|pub question: usize'
 count '1 a number for none'               'PLACES$|; 0 where|0 where (it|the|there)|        component: 0,'

@@ -105,7 +105,7 @@ fn rule_of_setting<V: View>(view: &V, i: usize) -> Option<Rule>
     })
 }
 
-// The rule of a row of a section, if there is one.
+// The rule of a row of a section, if there is one. By cases, since the rows of each section have a type of their own.
 pub(crate) fn rule_at<V: View>(view: &V, section: usize, i: usize) -> Option<Rule>
     ensures { result ≡ the_rule_at (V.View.rows view.now) section i }
 {

@@ -59,7 +59,8 @@ impl<'a, V: View> Keeping<'a, V> {
             && self.marks.keeps(Thing::Element(x.element))
     }
 
-    // Whether a row of a section other than the components stays.
+    // Whether a row of a section other than the components stays. By cases, since the rows of each section have a type of
+    // their own.
     fn stays(&self, section: usize, number: u8) -> bool
         ensures { result ≡ row_stays (kept_of self.now.marks.now) (chosen_in self.now.set) (V.View.rows self.now.view.now) section number }
     {

@@ -57,6 +57,8 @@ impl PackedRig {
     }
 }
 
+// Each call is one line over the tables, as in the open rig. A generic rig over tables would stand in a crate of its own,
+// where neither rig could have its maker.
 impl Rig for PackedRig {
     ghost rows = { rows_of };
 

@@ -6,7 +6,8 @@ ghost use Rattle.refused.specs.Line.{refused_at};
 
 use std::fmt;
 
-// A refusal as it is told: its number, and the two numbers that say where.
+// A refusal as it is told: its number, and the two numbers that say where. A number, since refusals of several types are
+// told so.
 #[derive(Clone, Copy, PartialEq, Eq, Debug)]
 pub struct Refused {
     pub number: u8,

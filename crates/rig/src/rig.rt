@@ -9,7 +9,8 @@ ghost use Rattle.rig.specs.Meaning.{Meaning, Sound, Moved};
 
 use running::kinds::{Step, StepRefusal};
 
-// A rig runs a sheet. It means the rows of an accepted sheet and a state of it; every call takes any number.
+// A rig runs a sheet. It means the rows of an accepted sheet and a state of it; every call takes any number, so sections
+// too go by number.
 pub trait Rig {
     // The rows of its sheet, which no call alters.
     ghost rows: { Self → List (List (List ℕ)) };

@@ -116,7 +116,8 @@ impl Tried for Event {
     }
 }
 
-// Whether node a is a value node with a lower number than i.
+// Whether node a is a value node with a lower number than i. Beside the next one by name: one function for both would take
+// the test of the node at each call.
 fn is_lower_value(sheet: &Layout, i: usize, a: u8) -> bool
     ensures { result ≡ lower_value (rows_of sheet.now) i a }
 {

@@ -8,6 +8,7 @@ ghost use Rattle.sheet.specs.Rules.{has_component, has_mode, has_modes, gives_va
 use layout::rows::Layout;
 use sheet::rows::{Component, ModeSet, Node};
 
+// Beside `row` for the fact that a component has few modes, which a shift needs.
 fn component(sheet: &Layout, c: u8) -> Option<Component>
     ensures value { result ≡ component_at (rows_of sheet.now) c }
     ensures few { IfSome result (λ x. x.modes ≤ 15) }

@@ -197,6 +197,7 @@ impl FromRow<NODE_BYTES> for Node {
 
     fn from_row(row: &[u8; NODE_BYTES]) -> Result<Option<Node>, Malformed> {
         let [kind, a, b, c] = *row;
+        // The kind and the bytes that must be 0 are one table: an enum of kinds would be matched once more.
         let node = match kind {
             0 if a == 0 && b == 0 && c == 0 => return Ok(None),
             1 if c == 0 => Node::Constant(number_of(a, b)),

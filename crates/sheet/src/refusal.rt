@@ -19,7 +19,8 @@ pub enum Reason {
     ForbiddenResting,
 }
 
-// A refusal names the section and the row that it was found at. Bytes left over are found at section 9, row 0.
+// A refusal names the section and the row that it was found at. Bytes left over are found at section 9, row 0, so the
+// section is a number.
 #[derive(Clone, Copy, PartialEq, Eq, Debug)]
 pub struct Refusal {
     pub reason: Reason,
