@@ -2,7 +2,7 @@
 
 use crate::case::Case;
 use cut_bytes::reply::reply_to_input;
-use session::sixteen::hex_text;
+use session::hex::hex_text;
 use std::alloc::{AllocError, Global};
 use std::str::from_utf8;
 
