@@ -29,15 +29,15 @@ impl fmt::Display for LineFault {
 impl From<AllocError> for LineFault {
     ghost from_gives = { λ _ r. r ≡ OutOfMemory };
 
-    fn from(_e: AllocError) -> LineFault {
-        LineFault::OutOfMemory
+    fn from(_e: AllocError) -> Self {
+        Self::OutOfMemory
     }
 }
 
 impl From<ParseIntError> for LineFault {
     ghost from_gives = { λ _ r. r ≡ NoCase };
 
-    fn from(_e: ParseIntError) -> LineFault {
-        LineFault::NoCase
+    fn from(_e: ParseIntError) -> Self {
+        Self::NoCase
     }
 }

@@ -26,6 +26,8 @@ pub fn is_chosen(set: QuestionSet, question: usize) -> bool
     question < QUESTION_NUMBERS && lists_mode(set, question as u8)
 }
 
+// The view and the marks go side by side, since the marks are handed out at the end.
+
 // Applies the rules of a section's rows, the highest row first, so that a node comes before its operands.
 fn apply_section<V: View>(view: &V, marks: &mut Marks, section: usize)
     requires { section < 9 }

@@ -12,7 +12,8 @@ use sheet::rows::ModeSet;
 use sheet::sizes::{MOST_COMPONENTS, MOST_ELEMENTS, MOST_EVENTS, MOST_NODES};
 use view::values::lists_mode;
 
-// The table has a place for each element, then for each event, for each mode of each component, and for each node.
+// The table has a place for each element, then for each event, for each mode of each component, and for each node. Its size
+// is fixed, since a cut takes no memory but that of its rig.
 const FIRST_EVENT: usize = MOST_ELEMENTS as usize;
 
 const FIRST_MODE: usize = FIRST_EVENT + MOST_EVENTS as usize;

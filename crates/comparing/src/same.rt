@@ -13,9 +13,9 @@ use sheet::sizes::{MOST_ELEMENTS, MOST_QUESTIONS};
 use view::typed::row;
 
 // The most questions and elements of a sheet.
-const QUESTIONS: usize = MOST_QUESTIONS as usize;
+const QUESTION_NUMBERS: usize = MOST_QUESTIONS as usize;
 
-const ELEMENTS: usize = MOST_ELEMENTS as usize;
+const ELEMENT_NUMBERS: usize = MOST_ELEMENTS as usize;
 
 // A pile of cuts and the whole rig with which it is compared.
 #[derive(Drop)]
@@ -47,14 +47,14 @@ impl<'a, P: Rig, W: Rig> Pair<'a, P, W> {
     fn are_same_answers(&self) -> bool
         ensures { Decides result ((q : ℕ) → IsKeptQuestion (P.Rig.rows self.now.pile.now) q → answer_of (W.Rig.rows self.now.whole.now) (W.Rig.means self.now.whole.now).state q ≡ answer_of (P.Rig.rows self.now.pile.now) (P.Rig.means self.now.pile.now).state q) }
     {
-        (0..QUESTIONS).all(|q| self.is_same_answer(q))
+        (0..QUESTION_NUMBERS).all(|q| self.is_same_answer(q))
     }
 
     // Whether every element that the pile kept has the same value on both.
     fn are_same_values(&self) -> bool
         ensures { Decides result ((e : ℕ) → IsKeptElement (P.Rig.rows self.now.pile.now) e → value_at (W.Rig.rows self.now.whole.now) (W.Rig.means self.now.whole.now).state e ≡ value_at (P.Rig.rows self.now.pile.now) (P.Rig.means self.now.pile.now).state e) }
     {
-        (0..ELEMENTS).all(|e| self.is_same_value(e))
+        (0..ELEMENT_NUMBERS).all(|e| self.is_same_value(e))
     }
 
     // Whether both tell the same of every question and element that the pile kept.

@@ -48,7 +48,8 @@ impl<'a, V: View> Keeping<'a, V> {
         })
     }
 
-    // Whether setting i is there, its transition stays and its element is kept.
+    // Whether setting i is there, its transition stays and its element is kept. With `is_some_and`, whose closure would call
+    // another method of `self`, the result of that call stayed unknown.
     fn setting_stays(&self, i: usize) -> bool
         ensures { result ≡ is (setting_at (V.View.rows self.now.view.now) i) (keeps_setting (kept_of self.now.marks.now) (V.View.rows self.now.view.now)) }
     {

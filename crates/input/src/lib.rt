@@ -13,6 +13,7 @@ pub fn read_input<'a, R: Read>(input: &mut R, buffer: &'a mut [u8]) -> io::Resul
     ensures bytes { IfOk result (λ bytes. Consumes (R.remaining input.old) (R.remaining input.new) bytes.now) }
     ensures all { IfOk result (λ bytes. length bytes.now < length buffer.old → IsAtEnd (R.remaining input.new)) }
 {
+    // Of `read_to_end` nothing is promised here: the bytes that are still to come are known of few readers.
     let mut len = 0;
     while len < buffer.len() {
         let n = input.read(&mut buffer[len..])?;

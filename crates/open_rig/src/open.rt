@@ -47,6 +47,7 @@ impl OpenRig {
     }
 }
 
+// Each call is the line that it is for any rig with such tables: a trait between would have the same lines.
 impl Rig for OpenRig {
     ghost rows = { rows_of };
 

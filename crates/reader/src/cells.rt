@@ -47,7 +47,8 @@ impl AcceptedSheet {
         self.layout().row(row)
     }
 
-    // The number of rows of a section, or nothing where there is no such section.
+    // The number of rows of a section, or nothing where there is no such section. Sections go by number here and below: any
+    // number may come.
     pub fn count(&self, section: usize) -> Option<usize>
         ensures { result ≡ count_of (rows_held self.now) section }
     {

@@ -70,7 +70,8 @@ fn clashes_with<const N: usize, R: InLayout<N> + Clashing>(sheet: &Layout, j: us
     y.clashes(x)
 }
 
-// Whether row i, which holds x, clashes with no earlier row.
+// Whether row i, which holds x, clashes with no earlier row. `any` told nothing of a closure that holds a value of a type
+// parameter.
 fn is_clear_of_earlier<const N: usize, R: InLayout<N> + Clashing>(
     sheet: &Layout,
     i: usize,

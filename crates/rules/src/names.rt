@@ -1,4 +1,4 @@
-// What a row can name: components, modes, elements, events, transitions and nodes.
+// What a row can name: components, modes and nodes.
 
 ghost use Rattle.std.specs.Prelude.{◌≡◌, ℕ, ◌+◌, ◌^◌, ◌≤◌, IfSome};
 ghost use Rattle.layout.specs.Laid.{rows_of};

@@ -42,7 +42,7 @@ fn lists_modes(set: ModeSet) -> bool
 
 // A typed value of a row of N bytes.
 pub trait FromRow<const N: usize>: Copy {
-    // The section that its rows stand in.
+    // The section that its rows stand in: clauses read the ghost member, code the constant.
     const SECTION: usize;
 
     ghost SECTION: { ℕ };

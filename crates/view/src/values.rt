@@ -9,12 +9,12 @@ use crate::typed::row;
 use crate::view::View;
 use running::kinds::Worth;
 use sheet::rows::{Element, Flow, Kind, ModeSet, Node};
-use sheet::sizes::{ELEMENTS, FLOWS};
+use sheet::sizes::{ELEMENTS, FLOWS, MOST_ELEMENTS, MOST_NODES};
 
-// A slot for each element that a sheet can have.
-pub const ELEMENT_SLOTS: usize = 64;
-// A slot for each node that a sheet can have.
-pub const NODE_SLOTS: usize = 128;
+// A slot for each element and each node that a sheet can have: tables of fixed size, since no call of a rig allocates.
+pub const ELEMENT_SLOTS: usize = MOST_ELEMENTS as usize;
+
+pub const NODE_SLOTS: usize = MOST_NODES as usize;
 
 // What node n gives; the number 0 where the table has none, as in the definition of values.
 fn worth_at(table: &[Worth], n: u8) -> Worth
@@ -108,7 +108,8 @@ fn feeds_port(f: Option<Flow>, port: usize, mode: u8) -> bool
     f.is_some_and(|x| usize::from(x.port) == port && lists_mode(x.modes, mode))
 }
 
-// The flow to a port that is in force in a mode of its component.
+// The flow to a port that is in force in a mode of its component. `find` over the numbers would give the number of the flow,
+// which would be read again.
 fn flow_in_force<V: View>(view: &V, port: usize, mode: u8) -> Option<Flow>
     ensures { result ≡ in_force (rows_in_section (V.View.rows view.now) flows) port mode }
 {

@@ -5,7 +5,8 @@ ghost use Rattle.running.specs.States.{State, mode_of, held_of, is_held};
 ghost use Rattle.sheet.specs.Accept.{accepted};
 ghost use Rattle.sheet.specs.Cells.{count_of, byte_of};
 
-// The rows of an accepted sheet, and modes and values.
+// The rows of an accepted sheet, and modes and values. Sections go by number, as in the calls of a rig: there any number may
+// come.
 pub trait View {
     // The rows.
     ghost rows: { Self → List (List (List ℕ)) };

@@ -57,7 +57,7 @@ fn sheet_length<V: View>(view: &V) -> usize
 }
 
 impl Filling<'_> {
-    // Puts a row behind what is filled.
+    // Puts a row behind what is filled. Of the places as a chain with `map_while` no proof was generated.
     fn put_row<V: View>(&mut self, view: &V, section: usize, row: usize)
         requires { self.old.filled + length (slice_index_or (rows (V.View.rows view.now) section) row []) ≤ length self.old.buffer.now }
         ensures { Filled self.old (slice_index_or (rows (V.View.rows view.now) section) row []) self.new }
