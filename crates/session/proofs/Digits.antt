@@ -1,11 +1,13 @@
 -- Digits in base sixteen that are written, and read again.
-use Rattle.std.proofs.Common.{◌≡◌, ℕ, ◌+◌, ◌-◌, ◌*◌, ◌/◌, ◌%◌, ◌<◌, ◌≤◌, Bool, true, cond, ◌&&◌, ltb, List, [], ◌∷◌, ◌++◌, length, get_or, take, drop, is_some, Some, None, Option, sym, refl, ap, ◌∙◌, append_assoc, div-add-mod', arith, w8, Fits}
+use Rattle.std.proofs.Common.{◌≡◌, ℕ, zero, suc, ◌+◌, ◌*◌, ◌/◌, ◌%◌, ◌<◌, true, cond, ◌&&◌, ltb, List, [], ◌∷◌, ◌++◌, length, get_or, drop, is_some, Some, None, Option, sym, refl, ap, ◌∙◌, append_assoc, div-add-mod', arith, w8, Fits}
 use lib.Utf8.{encode}
-use Rattle.std.proofs.lemmas.List.{take_rest, drop_more}
+use Rattle.std.proofs.lemmas.List.{drop_more}
 use Rattle.std.proofs.lemmas.Bool.{lt-ltb, and_from, false≢true}
 use Rattle.std.proofs.lemmas.Str.{digit_value-digit_char, encode_ascii}
 use Rattle.std.proofs.lemmas.Bool.Decides.{nat_tests}
 use Rattle.std.specs.Option.{option_map}
+use Rattle.std.specs.List.{list_all}
+use Rattle.std.specs.Simd.{first_chunks}
 use Rattle.std.specs.Char.{digit_char}
 use Rattle.session.specs.Pieces.{in_front}
 use Rattle.session.specs.Sixteen.{byte_of, hex_of, hex_text, HexReadsBack}
@@ -38,20 +40,61 @@ reads_back (b ∷ bs) all =
     let rest = reads_back bs all.1 in
     λ i. in_front (first i) (rest i)
 
--- two digits read
-pub hex_step : (xs : List ℕ) (o : Option ℕ) → 2 ≤ length xs → o ≡ byte_of (get_or xs 0 0) (get_or xs 1 0) → hex_of xs ≡ in_front o (hex_of (take (length xs - 2) (drop 2 xs)))
-hex_step [] o long e = absurd (omega arith)
-hex_step (x ∷ []) o long e = absurd (omega arith)
-hex_step (x ∷ y ∷ ys) o long e = λ i. in_front (sym e i) (hex_of (sym (take_rest (x ∷ y ∷ ys) 2) i))
+-- the byte that a piece of two digits writes
+abbrev pub byte_in : List ℕ → Option ℕ
+byte_in p = byte_of (get_or p 0 0) (get_or p 1 0)
 
-in_front_some : (o : Option ℕ) (bs : Option (List ℕ)) → is_some o ≡ true → is_some (in_front o bs) ≡ is_some bs
-in_front_some None bs e = absurd (false≢true e)
-in_front_some (Some b) None e = refl
-in_front_some (Some b) (Some bs) e = refl
+-- the bytes that pieces of two digits write
+abbrev pub bytes_in : List (List ℕ) → Option (List ℕ)
+bytes_in [] = Some []
+bytes_in (p ∷ ps) = in_front (byte_in p) (bytes_in ps)
 
--- the test goes on behind two digits
-pub tested_more : (xs : List ℕ) (o : Option ℕ) (whole : Bool) → 2 ≤ length xs → o ≡ byte_of (get_or xs 0 0) (get_or xs 1 0) → is_some o ≡ true → is_some (hex_of xs) ≡ whole → is_some (hex_of (take (length xs - 2) (drop 2 xs))) ≡ whole
-tested_more xs o whole long e some was = sym (in_front_some o _ some) ∙ ap is_some (sym (hex_step xs o long e)) ∙ was
+-- a text of whole pieces
+paired : (k : ℕ) (xs : List ℕ) → length xs ≡ k * 2 → bytes_in (first_chunks 2 k xs) ≡ hex_of xs
+paired zero [] e = refl
+paired zero (x ∷ xs) e = absurd (omega arith)
+paired (suc k) [] e = absurd (omega arith)
+paired (suc k) (x ∷ []) e = absurd (omega arith)
+paired (suc k) (x ∷ y ∷ ys) e = ap (in_front (byte_of x y)) (paired k ys (omega arith))
+
+pub in_pieces : (xs : List ℕ) → length xs % 2 ≡ 0 → bytes_in (first_chunks 2 (length xs / 2) xs) ≡ hex_of xs
+in_pieces xs e = paired (length xs / 2) xs (omega arith)
+
+in_front_none : (o : Option ℕ) → in_front o None ≡ None
+in_front_none None = refl
+in_front_none (Some b) = refl
+
+-- a digit left over
+alone : (k : ℕ) (xs : List ℕ) → length xs ≡ k * 2 + 1 → hex_of xs ≡ None
+alone k [] e = absurd (omega arith)
+alone k (x ∷ []) e = refl
+alone zero (x ∷ y ∷ ys) e = absurd (omega arith)
+alone (suc k) (x ∷ y ∷ ys) e = ap (in_front (byte_of x y)) (alone k ys (omega arith)) ∙ in_front_none (byte_of x y)
+
+pub left_over : (xs : List ℕ) → 0 < length xs % 2 → hex_of xs ≡ None
+left_over xs e = alone (length xs / 2) xs (omega arith)
+
+pub no_digit_over : (xs : List ℕ) → is_some (hex_of xs) ≡ true → length xs % 2 ≡ 0
+no_digit_over xs e = or_else (length xs % 2) refl
+  where
+    or_else : (r : ℕ) → length xs % 2 ≡ r → length xs % 2 ≡ 0
+    or_else zero f = f
+    or_else (suc r) f = absurd (false≢true (ap is_some (sym (left_over xs (omega arith))) ∙ e))
+
+-- whether pieces of two digits each write a byte
+pub all_pieces : (ps : List (List ℕ)) → list_all (λ p. is_some (byte_in p)) ps ≡ is_some (bytes_in ps)
+all_pieces [] = refl
+all_pieces (p ∷ ps) = ap (λ b. is_some (byte_in p) && b) (all_pieces ps) ∙ both (byte_in p) (bytes_in ps)
+  where
+    both : (o : Option ℕ) (bs : Option (List ℕ)) → (is_some o && is_some bs) ≡ is_some (in_front o bs)
+    both None bs = refl
+    both (Some b) None = refl
+    both (Some b) (Some bs) = refl
+
+-- bytes behind none
+pub none_before : (was : List ℕ) (bs : Option (List ℕ)) → was ≡ [] → option_map (λ l. was ++ l) bs ≡ bs
+none_before was None e = refl
+none_before was (Some bs) e = ap Some (ap (λ l. l ++ bs) e)
 
 -- a byte put behind those that stand
 behind : (was now : List ℕ) (b : ℕ) (bs : Option (List ℕ)) → now ≡ was ++ (b ∷ []) → option_map (λ l. now ++ l) bs ≡ option_map (λ l. was ++ l) (in_front (Some b) bs)
@@ -59,8 +102,12 @@ behind was now b None e = refl
 behind was now b (Some bs) e = ap Some (ap (λ l. l ++ bs) e ∙ append_assoc was (b ∷ []) bs)
 
 -- a byte read
-pub read_more : (xs was now : List ℕ) (b : ℕ) (whole : Option (List ℕ)) → 2 ≤ length xs → Some b ≡ byte_of (get_or xs 0 0) (get_or xs 1 0) → now ≡ was ++ (b ∷ []) → option_map (λ l. was ++ l) (hex_of xs) ≡ whole → option_map (λ l. now ++ l) (hex_of (take (length xs - 2) (drop 2 xs))) ≡ whole
-read_more xs was now b whole long e grown inv = behind was now b _ grown ∙ ap (option_map (λ l. was ++ l)) (sym (hex_step xs (Some b) long e)) ∙ inv
+pub read_more : (ps : List (List ℕ)) (i : ℕ) (was now : List ℕ) (b : ℕ) (whole : Option (List ℕ)) → i < length ps → Some b ≡ byte_in (get_or ps i []) → now ≡ was ++ (b ∷ []) → option_map (λ l. was ++ l) (bytes_in (drop i ps)) ≡ whole → option_map (λ l. now ++ l) (bytes_in (drop (i + 1) ps)) ≡ whole
+read_more ps i was now b whole within e grown inv =
+    behind was now b _ grown
+    ∙ ap (λ o. option_map (λ l. was ++ l) (in_front o (bytes_in (drop (i + 1) ps)))) e
+    ∙ ap (λ l. option_map (λ l. was ++ l) (bytes_in l)) (sym (drop_more ps i [] within))
+    ∙ inv
 
 -- a digit written behind the text so far
 digit_behind : (was now : List ℕ) (d x : ℕ) → x < 16 → d ≡ digit_char x → now ≡ was ++ encode d → now ≡ was ++ (digit_char x ∷ [])

@@ -15,14 +15,12 @@ pub fn hex_bytes(heap: Global, text: &[u8]) -> Result<Option<Vec<u8>>, AllocErro
         return Ok(None);
     }
     let mut bytes = Vec::new(heap);
-    // A pattern takes two digits at a time; pieces of two would be taken apart by the same pattern.
-    let mut left = text;
-    while let [high, low, rest @ ..] = left {
+    let (pairs, _) = text.as_chunks::<2>();
+    for [high, low] in pairs {
         let Some(byte) = byte_of_digits(*high, *low) else {
             return Ok(None);
         };
         bytes.push(byte)?;
-        left = rest;
     }
     Ok(Some(bytes))
 }
@@ -43,15 +41,11 @@ pub fn hex_text(heap: Global, bytes: &[u8]) -> Result<String, AllocError>
 fn is_hex(text: &[u8]) -> bool
     ensures { result ≡ is_some (hex_of text.now) }
 {
-    // A pattern takes two digits at a time; pieces of two would be taken apart by the same pattern.
-    let mut left = text;
-    while let [high, low, rest @ ..] = left {
-        if byte_of_digits(*high, *low).is_none() {
-            return false;
-        }
-        left = rest;
-    }
-    left.is_empty()
+    let (pairs, rest) = text.as_chunks::<2>();
+    rest.is_empty()
+        && pairs
+            .iter()
+            .all(|[high, low]| byte_of_digits(*high, *low).is_some())
 }
 
 fn byte_of_digits(high: u8, low: u8) -> Option<u8>
