@@ -43,7 +43,8 @@ impl<'a, P: Rig, W: Rig> Pair<'a, P, W> {
         here.is_none() || here == self.whole.value(e)
     }
 
-    // Whether every question that the pile kept has the same answer on both.
+    // Whether every question that the pile kept has the same answer on both. Beside the next one by name: one function for both
+    // would take the test and the limit.
     fn are_same_answers(&self) -> bool
         ensures { Decides result ((q : ℕ) → IsKeptQuestion (P.Rig.rows self.now.pile.now) q → answer_of (W.Rig.rows self.now.whole.now) (W.Rig.means self.now.whole.now).state q ≡ answer_of (P.Rig.rows self.now.pile.now) (P.Rig.means self.now.pile.now).state q) }
     {
