@@ -1,4 +1,5 @@
 pub mod Bytes
 pub mod Carried
+pub mod Found
 pub mod Starts
 pub mod Tables

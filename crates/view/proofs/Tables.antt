@@ -1,10 +1,9 @@
 -- The tables of values.
-use Rattle.std.proofs.Common.{◌≡◌, ℕ, ◌+◌, ◌^◌, ◌<◌, ◌≤◌, true, false, cond, List, [], length, get_or, take, drop, set, ℤ, None, Option, sym, ap, ◌∙◌, ⊎_elim, arith, pow_mono}
+use Rattle.std.proofs.Common.{◌≡◌, ℕ, ◌+◌, ◌^◌, ◌<◌, ◌≤◌, true, false, cond, List, [], length, get_or, take, drop, set, ℤ, None, sym, ap, ◌∙◌, ⊎_elim, arith, pow_mono}
 use native.Mathlib.Nat.{div-eq_of_lt}
 use Rattle.std.proofs.lemmas.List.{length-set, take_more_set, take_all, get_or_past, at_drop_more, drop_all}
 use Rattle.std.proofs.lemmas.Option.{slice_get-get_or}
-use Rattle.std.proofs.lemmas.Bool.{cases_lt, cond-true, cond-false}
-use Rattle.sheet.specs.declared.rows.Flow.{Flow}
+use Rattle.std.proofs.lemmas.Bool.{cases_lt}
 use Rattle.sheet.specs.Accept.{accepted}
 use Rattle.sheet.specs.Lookup.{held, read_by, there}
 use Rattle.sheet.specs.Sections.{Row, Sheet, rows, nodes, elements}
@@ -56,18 +55,11 @@ node_table s w vs table a e n =
 there_held : (rs : List Row) (i : ℕ) → i < length rs → there flow_entry rs i ≡ held (flow_entry (get_or rs i []))
 there_held rs i l = ap (read_by flow_entry) (slice_get-get_or rs i [] l)
 
-module _ (rs : List Row) (p m i : ℕ) (l : i < length rs) (f : Option Flow) (e : f ≡ there flow_entry rs i) where
-  -- the first that is left to see, and the others
-  first_left : in_force (drop i rs) p m ≡ cond (feeds p m f) f (in_force (drop (i + 1) rs) p m)
-  first_left =
-      at_drop_more (λ rs. in_force rs p m) rs i [] l
-      ∙ ap (λ o. cond (feeds p m o) o (in_force (drop (i + 1) rs) p m)) (sym (e ∙ there_held rs i l))
-
-  pub force_here : feeds p m f ≡ true → f ≡ in_force (drop i rs) p m
-  force_here h = sym (first_left ∙ cond-true (feeds p m f) f (in_force (drop (i + 1) rs) p m) h)
-
-  pub force_more : feeds p m f ≡ false → in_force (drop (i + 1) rs) p m ≡ in_force (drop i rs) p m
-  force_more h = sym (first_left ∙ cond-false (feeds p m f) f (in_force (drop (i + 1) rs) p m) h)
+-- the first that is left to see, and the others
+pub first_left : (rs : List Row) (p m i : ℕ) → i < length rs → in_force (drop i rs) p m ≡ cond (feeds p m (there flow_entry rs i)) (there flow_entry rs i) (in_force (drop (i + 1) rs) p m)
+first_left rs p m i l =
+    at_drop_more (λ rs. in_force rs p m) rs i [] l
+    ∙ ap (λ o. cond (feeds p m o) o (in_force (drop (i + 1) rs) p m)) (sym (there_held rs i l))
 
 pub force_none : (rs : List Row) (p m i : ℕ) → length rs ≤ i → in_force (drop i rs) p m ≡ None
 force_none rs p m i l = ap (λ rs. in_force rs p m) (drop_all i rs l)

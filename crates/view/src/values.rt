@@ -1,8 +1,10 @@
 // The values of elements and nodes in the state that a view shows.
 
-ghost use Rattle.std.specs.Prelude.{◌≡◌, ℕ, length, take, ℤ, pos, slice_index_or};
+ghost use Rattle.std.specs.Prelude.{◌≡◌, ℕ, cond, length, take, ℤ, pos, slice_index_or};
 ghost use Rattle.running.specs.Values.{number_in, truth_in, nothing, evaluated, node_cell, node_over, in_force, feeds, lists, element_cell, values as values_in, node_value};
+ghost use Rattle.sheet.specs.Lookup.{flow_at};
 ghost use Rattle.sheet.specs.Sections.{rows as rows_in_section, elements, flows};
+ghost use Rattle.std.specs.declared.option.Option.TheVariants.{None, Some};
 
 use crate::numbers::{bring_into, difference_of, sum_of};
 use crate::typed::row;
@@ -102,25 +104,25 @@ pub fn lists_mode(set: ModeSet, mode: u8) -> bool
 }
 
 // Whether the flow leads to the port in the mode.
-fn feeds_port(f: Option<Flow>, port: usize, mode: u8) -> bool
-    ensures { result ≡ feeds port mode f }
+fn feeds_port(x: &Flow, port: usize, mode: u8) -> bool
+    ensures { result ≡ feeds port mode (Some x.now) }
 {
-    f.is_some_and(|x| usize::from(x.port) == port && lists_mode(x.modes, mode))
+    usize::from(x.port) == port && lists_mode(x.modes, mode)
 }
 
-// The flow to a port that is in force in a mode of its component. `find` over the numbers would give the number of the flow,
-// which would be read again.
+// Flow i, where it leads to the port in the mode.
+fn flow_to<V: View>(view: &V, i: usize, port: usize, mode: u8) -> Option<Flow>
+    ensures { result ≡ cond (feeds port mode (flow_at (V.View.rows view.now) i)) (flow_at (V.View.rows view.now) i) None }
+{
+    row(view, i).filter(|x| feeds_port(x, port, mode))
+}
+
+// The flow to a port that is in force in a mode of its component.
 fn flow_in_force<V: View>(view: &V, port: usize, mode: u8) -> Option<Flow>
     ensures { result ≡ in_force (rows_in_section (V.View.rows view.now) flows) port mode }
 {
     let count = view.count(FLOWS).unwrap_or(0);
-    for i in 0..count {
-        let f = row(view, i);
-        if feeds_port(f, port, mode) {
-            return f;
-        }
-    }
-    None
+    (0..count).find_map(|i| flow_to(view, i, port, mode))
 }
 
 // The value of element e, from the values of the elements before it.
