@@ -60,6 +60,7 @@ fn mark_of(sheet: &Layout, target: Target, n: usize, table: &[bool]) -> bool
 pub(crate) fn rests_on(sheet: &Layout, target: Target, n: u8) -> bool
     ensures { result ≡ rests (rows_of sheet.now) target n }
 {
+    // Of fixed size, since a verdict allocates nothing.
     let mut table = [false; NODE_NUMBERS];
     let last = usize::from(n);
     // The number is needed: a mark is worked out from the marks before it.
