@@ -73,7 +73,8 @@ fn is_kept_transition<P: Rig>(pile: &P, t: usize) -> bool
     row::<_, Transition, _>(&Seen { rig: pile }, t).is_some()
 }
 
-// Whether the step names only transitions that the pile kept.
+// Whether the step names only transitions that the pile kept. No method of `Pair`: it is asked where both rigs are lent to be
+// changed.
 pub(crate) fn is_kept_step<P: Rig>(pile: &P, step: Step) -> bool
     requires { P.Rig.fits pile.now }
     ensures { Decides result (KeptStep (P.Rig.rows pile.now) step) }

@@ -24,7 +24,7 @@ fn field_at(sheet: &AcceptedSheet, i: usize) -> BitField
     }
 }
 
-// The number in a field. That there is a field i is asked by three functions: a struct for it would be made for one call each.
+// The number in a field. That there is a field i is asked by four functions: a struct for it would be made for one call each.
 pub fn number_in_field(sheet: &AcceptedSheet, bytes: &[u8; IMAGE_BYTES], i: usize) -> u32
     requires { i < length (widths (rows_held sheet.now)) }
     ensures value { result ≡ slice_index (numbers_in (widths (rows_held sheet.now)) (number_of bytes.now)) i }

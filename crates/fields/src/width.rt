@@ -37,7 +37,8 @@ fn value_bits(sheet: &AcceptedSheet, e: usize) -> u32
     }
 }
 
-// The bits of a field: first those of the modes, then those of the values.
+// The bits of a field: first those of the modes, then those of the values. That there is a field i is asked by four
+// functions: a struct for it would be made for one call each.
 pub(crate) fn field_bits(sheet: &AcceptedSheet, i: usize) -> u32
     requires { i < length (widths (rows_held sheet.now)) }
     ensures value { result ≡ slice_index (widths (rows_held sheet.now)) i }

@@ -8,6 +8,7 @@ use crate::tables::Tables;
 use moves::store::Store;
 use view::view::View;
 
+// Both `count` and `byte` are those of the sheet, in each rig that has one; 0 where there is no record, as in a state.
 impl View for Tables {
     ghost rows = { rows_in };
 

@@ -12,6 +12,7 @@ use sheet::rows::Element;
 use sheet::sizes::COMPONENTS;
 use view::view::View;
 
+// Both `count` and `byte` are those of the sheet, in each rig that has one; 0 where there is no field, as in a state.
 impl View for Tables {
     ghost rows = { rows_in };
 

@@ -48,7 +48,7 @@ impl AcceptedSheet {
     }
 
     // The number of rows of a section, or nothing where there is no such section. Sections go by number here and below: any
-    // number may come.
+    // number may come. By cases twice, since the slices have nine types.
     pub fn count(&self, section: usize) -> Option<usize>
         ensures { result ≡ count_of (rows_held self.now) section }
     {

@@ -48,6 +48,7 @@ fn gives_a_value(node: Node) -> bool
     )
 }
 
+// Beside the next one by name: one function for both would take the answer that is wanted at each call.
 pub(crate) fn is_value_node(sheet: &Layout, n: u8) -> bool
     ensures { result ≡ value_node (rows_of sheet.now) n }
 {

@@ -74,7 +74,8 @@ fn evaluate<V: View>(view: &V, values: &[i32], before: &[Worth], node: Node) -> 
     }
 }
 
-// What node n gives, from the values of the elements and what the nodes before it give.
+// What node n gives, from the values of the elements and what the nodes before it give; the number 0 where there is none, as
+// in the definition of values.
 fn node_worth<V: View>(view: &V, values: &[i32], before: &[Worth], n: usize) -> Worth
     ensures { result ≡ node_cell (V.View.rows view.now) (V.View.state view.now) values.now n before.now }
 {

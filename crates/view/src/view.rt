@@ -23,7 +23,7 @@ pub trait View {
     fn mode(&self, component: usize) -> u8
         ensures { result ≡ mode_of (state self.now) component };
 
-    // The value of a held element.
+    // The value of a held element; of another, any.
     fn held(&self, element: usize) -> i32
         ensures { is_held (rows self.now) element ≡ true → result ≡ held_of (state self.now) element };
 
