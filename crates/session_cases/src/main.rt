@@ -76,6 +76,7 @@ mod tests {
     use running::kinds::{NoQuestion, StepRefusal};
     use session::reply::{Reply, reply_text};
     use sheet::refusal::{Reason, Refusal};
+    use std::test::Fail;
 
     #[test]
     fn replies_have_their_lines(rt: HostRuntime) -> Result<(), Fail> {
