@@ -4,12 +4,12 @@ ghost use Rattle.std.specs.Prelude.{◌≡◌, ℕ, Decides};
 ghost use Rattle.cutting.specs.Agreement.{IsKeptQuestion, IsKeptTransition, IsKeptElement, KeptStep, SameAnswers};
 ghost use Rattle.running.specs.Steps.{answer_of, value_at};
 
-use rig::answer::answer;
 use rig::rig::Rig;
 use rig::seen::Seen;
 use running::kinds::Step;
 use sheet::rows::Transition;
 use sheet::sizes::{MOST_ELEMENTS, MOST_QUESTIONS};
+use view::answers::answer_to;
 use view::typed::row;
 
 // The most questions and elements of a sheet.
@@ -17,13 +17,13 @@ const QUESTION_NUMBERS: usize = MOST_QUESTIONS as usize;
 
 const ELEMENT_NUMBERS: usize = MOST_ELEMENTS as usize;
 
-// A pile of cuts and the whole rig with which it is compared.
+// A pile of cuts and the whole rig with which it is compared. As in `Seen`, the fields say only that proofs exist.
 #[derive(Drop)]
 pub(crate) struct Pair<'a, P: Rig, W: Rig> {
     pub(crate) pile: &'a P,
     pub(crate) whole: &'a W,
-    ghost pile_fits: { P.Rig.fits pile.now } by { P.Rig.fits_is_a_fact pile.now },
-    ghost whole_fits: { W.Rig.fits whole.now } by { W.Rig.fits_is_a_fact whole.now },
+    ghost pile_fits: { ∥ P.Rig.fits pile.now ∥₁ },
+    ghost whole_fits: { ∥ W.Rig.fits whole.now ∥₁ },
 }
 
 impl<'a, P: Rig, W: Rig> Pair<'a, P, W> {
@@ -31,16 +31,16 @@ impl<'a, P: Rig, W: Rig> Pair<'a, P, W> {
     pub(crate) fn is_same_answer(&self, q: usize) -> bool
         ensures { Decides result (IsKeptQuestion (P.Rig.rows self.now.pile.now) q → answer_of (W.Rig.rows self.now.whole.now) (W.Rig.means self.now.whole.now).state q ≡ answer_of (P.Rig.rows self.now.pile.now) (P.Rig.means self.now.pile.now).state q) }
     {
-        let here = answer(self.pile, q);
-        here.is_err() || here == answer(self.whole, q)
+        let here = answer_to(&Seen { rig: self.pile }, q);
+        here.is_err() || here == answer_to(&Seen { rig: self.whole }, q)
     }
 
     // Whether an element has the same value on both, if the pile kept it.
     fn is_same_value(&self, e: usize) -> bool
         ensures { Decides result (IsKeptElement (P.Rig.rows self.now.pile.now) e → value_at (W.Rig.rows self.now.whole.now) (W.Rig.means self.now.whole.now).state e ≡ value_at (P.Rig.rows self.now.pile.now) (P.Rig.means self.now.pile.now).state e) }
     {
-        let here = self.pile.value(e);
-        here.is_none() || here == self.whole.value(e)
+        let here = Seen { rig: self.pile }.value(e);
+        here.is_none() || here == Seen { rig: self.whole }.value(e)
     }
 
     // Whether every question that the pile kept has the same answer on both. Beside the next one by name: one function for both

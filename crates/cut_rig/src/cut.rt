@@ -9,7 +9,6 @@ ghost use Rattle.cut_rig.specs.Cuts.{rows_above, means_above, FitsAbove, MadeAbo
 ghost use Rattle.cutting.specs.Laws.{SmallestIsUnique, CutIsUnique, CutsAreAccepted};
 ghost use Rattle.cutting.proofs.AcceptedCuts.{cuts_are_accepted};
 ghost use Rattle.cutting.proofs.StatesAgree.{shown_state_of};
-ghost use Rattle.std.proofs.Props.{props};
 
 use crate::stays::byte_of_blank;
 use crate::tables::Tables;
@@ -86,8 +85,6 @@ impl<R: Rig> Rig for Cut<R> {
     ghost means = { means_above R.Rig.means };
 
     ghost fits = { FitsAbove R.Rig.rows R.Rig.fits };
-
-    ghost fits_is_a_fact = { λ x. Prim.hlevel (props, R.Rig.fits_is_a_fact) };
 
     ghost sound = { λ x f.
         let s = R.Rig.rows x.below in

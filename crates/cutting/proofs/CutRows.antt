@@ -8,12 +8,12 @@ use Rattle.sheet.specs.Entry.{Entry, malformed}
 use Rattle.sheet.specs.declared.rows.Component.{Component}
 use Rattle.sheet.specs.declared.rows.Transition.{Transition}
 use Rattle.sheet.specs.Accept.{accepted}
-use Rattle.sheet.specs.Lookup.{held, read_by, there, is, component_at, element_at, event_at, node_at, flow_at, transition_at, setting_at, question_at}
-use Rattle.sheet.specs.Sections.{Row, Sheet, rows, components, elements, events, nodes, flows, transitions, settings, questions}
-use Rattle.sheet.specs.Typed.{at, zeros, holds_if, blank_or, event_named, component_entry, element_entry, event_entry, node_entry, flow_entry, transition_entry, setting_entry, question_entry}
+use Rattle.sheet.specs.Lookup.{held, read_by, there, is, component_at, element_at, event_at, node_at, flow_at, connection_at, transition_at, setting_at, question_at}
+use Rattle.sheet.specs.Sections.{Row, Sheet, rows, components, elements, events, nodes, flows, connections, transitions, settings, questions}
+use Rattle.sheet.specs.Typed.{at, zeros, holds_if, blank_or, event_named, component_entry, element_entry, event_entry, node_entry, flow_entry, connection_entry, transition_entry, setting_entry, question_entry}
 use Rattle.sheet.proofs.Meaning.{keeps_the_rules}
 use Rattle.cutting.specs.declared.kinds.Thing.TheVariants.{Element as KeptElement, Event as KeptEvent, Mode as KeptMode}
-use Rattle.cutting.specs.CutSheet.{blank_row, stays_if, shown_mode, with_shown_to, cut_component, cut_transition, keeps_setting, is_used, cut_sheet}
+use Rattle.cutting.specs.CutSheet.{blank_row, stays_if, shown_mode, keeps_events, with_shown_to, cut_component, cut_transition, keeps_setting, is_used, cut_sheet}
 use Rattle.cutting.specs.Kept.{Kept, Chosen, keeps_from}
 use Rattle.cutting.specs.Numbered.{numbered}
 use Rattle.cutting.proofs.NumberedLists.{nth_numbered}
@@ -148,6 +148,9 @@ module _ (k : Kept) (chosen : Chosen) (s : Sheet) where
 
   pub flow_cut : (i : ℕ) → flow_at (cut_sheet k chosen s) i ≡ passing (λ x. k (KeptElement x.port)) (flow_at s i)
   flow_cut i = there_stays flows flow_entry refl (λ n x. k (KeptElement x.port)) (rows s flows) i
+
+  pub connection_cut : (i : ℕ) → connection_at (cut_sheet k chosen s) i ≡ passing (keeps_events k) (connection_at s i)
+  connection_cut i = there_stays connections connection_entry refl (λ n. keeps_events k) (rows s connections) i
 
   pub setting_cut : (i : ℕ) → setting_at (cut_sheet k chosen s) i ≡ passing (keeps_setting k s) (setting_at s i)
   setting_cut i = there_stays settings setting_entry refl (λ n. keeps_setting k s) (rows s settings) i

@@ -10,7 +10,7 @@ ghost use Rattle.layout.specs.Laid.{rows_of, LaysOut};
 ghost use Rattle.layout.specs.Sections.{section as section_in, sections, Tells};
 
 use rows::Layout;
-use sheet::decode::FromRow;
+use sheet::decode::SectionRow;
 use sheet::refusal::{Reason, Refusal};
 use sheet::rows::{
     Component, Connection, Element, Event, Flow, Node, Question, Setting, Transition,
@@ -26,8 +26,10 @@ pub fn lay_out(bytes: &[u8]) -> Result<Layout<'_>, Refusal>
 }
 
 // The rows of a section at the front of the bytes, and the bytes behind it.
-fn take_section<const N: usize, R: FromRow<N>>(bytes: &[u8]) -> Result<(&[[u8; N]], &[u8]), Refusal>
-    ensures answer { Tells (λ p. (p.0.now, p.1.now)) (section_in R.FromRow.SECTION (shape N R.FromRow.LEAST R.FromRow.MOST) bytes.now) result }
+fn take_section<const N: usize, R: SectionRow<N>>(
+    bytes: &[u8],
+) -> Result<(&[[u8; N]], &[u8]), Refusal>
+    ensures answer { Tells (λ p. (p.0.now, p.1.now)) (section_in R.SectionRow.SECTION (shape N R.SectionRow.LEAST R.SectionRow.MOST) bytes.now) result }
     ensures typed { are_bytes bytes.now ≡ true }
 {
     let section = R::SECTION;

@@ -6,7 +6,7 @@ ghost use Rattle.sheet.specs.Lookup.{there};
 ghost use Rattle.sheet.specs.Sections.{rows};
 
 use crate::rows::Layout;
-use sheet::decode::{FromRow, row_at};
+use sheet::decode::{SectionRow, row_at};
 use sheet::rows::{
     Component, Connection, Element, Event, Flow, Node, Question, Setting, Transition,
 };
@@ -16,15 +16,15 @@ use sheet::sizes::{
 };
 
 // A typed value of a row, with the section of a layout that its rows stand in.
-pub trait InLayout<const N: usize>: FromRow<N> {
+pub trait InLayout<const N: usize>: SectionRow<N> {
     fn rows_in<'a>(sheet: &Layout<'a>) -> &'a [[u8; N]]
-        ensures { result.now ≡ rows (rows_of sheet.now) Self.FromRow.SECTION };
+        ensures { result.now ≡ rows (rows_of sheet.now) Self.SectionRow.SECTION };
 }
 
 impl<'a> Layout<'a> {
     // What row i of a section holds; nothing where it is missing, blank or malformed.
     pub fn row<const N: usize, R: InLayout<N>>(&self, i: usize) -> Option<R>
-        ensures { result ≡ there R.FromRow.entry (rows (rows_of self.now) R.FromRow.SECTION) i }
+        ensures { result ≡ there R.FromRow.entry (rows (rows_of self.now) R.SectionRow.SECTION) i }
     {
         row_at(R::rows_in(self), i)
     }

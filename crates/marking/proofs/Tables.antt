@@ -189,14 +189,14 @@ left_more false bs = refl
 left_is : (t : List Bool) → left t ≡ unmarked t
 left_is t = is_count_by left not refl left_more t
 
-grown_fewer : (a b : List Bool) → length b ≡ length a → ((p : ℕ) → get_or a p false ≡ true → get_or b p false ≡ true) → left b ≤ left a
-grown_fewer [] [] l g = omega arith
-grown_fewer [] (y ∷ b) l g = absurd (omega arith)
-grown_fewer (x ∷ a) [] l g = absurd (omega arith)
-grown_fewer (true ∷ a) (true ∷ b) l g = let r = grown_fewer a b (omega arith) (λ p h. g (suc p) h) in omega arith
-grown_fewer (true ∷ a) (false ∷ b) l g = absurd (false≢true (g 0 refl))
-grown_fewer (false ∷ a) (true ∷ b) l g = let r = grown_fewer a b (omega arith) (λ p h. g (suc p) h) in omega arith
-grown_fewer (false ∷ a) (false ∷ b) l g = let r = grown_fewer a b (omega arith) (λ p h. g (suc p) h) in omega arith
+left_fewer : (a b : List Bool) → length b ≡ length a → ((p : ℕ) → get_or a p false ≡ true → get_or b p false ≡ true) → left b ≤ left a
+left_fewer [] [] l g = omega arith
+left_fewer [] (y ∷ b) l g = absurd (omega arith)
+left_fewer (x ∷ a) [] l g = absurd (omega arith)
+left_fewer (true ∷ a) (true ∷ b) l g = let r = left_fewer a b (omega arith) (λ p h. g (suc p) h) in omega arith
+left_fewer (true ∷ a) (false ∷ b) l g = absurd (false≢true (g 0 refl))
+left_fewer (false ∷ a) (true ∷ b) l g = let r = left_fewer a b (omega arith) (λ p h. g (suc p) h) in omega arith
+left_fewer (false ∷ a) (false ∷ b) l g = let r = left_fewer a b (omega arith) (λ p h. g (suc p) h) in omega arith
 
 grown_equal : (a b : List Bool) → length b ≡ length a → ((p : ℕ) → get_or a p false ≡ true → get_or b p false ≡ true) → left a ≤ left b → b ≡ a
 grown_equal [] [] l g u = refl
@@ -204,8 +204,12 @@ grown_equal [] (y ∷ b) l g u = absurd (omega arith)
 grown_equal (x ∷ a) [] l g u = absurd (omega arith)
 grown_equal (true ∷ a) (true ∷ b) l g u = ap (λ t. true ∷ t) (grown_equal a b (omega arith) (λ p h. g (suc p) h) (omega arith))
 grown_equal (true ∷ a) (false ∷ b) l g u = absurd (false≢true (g 0 refl))
-grown_equal (false ∷ a) (true ∷ b) l g u = let r = grown_fewer a b (omega arith) (λ p h. g (suc p) h) in absurd (omega arith)
+grown_equal (false ∷ a) (true ∷ b) l g u = let r = left_fewer a b (omega arith) (λ p h. g (suc p) h) in absurd (omega arith)
 grown_equal (false ∷ a) (false ∷ b) l g u = ap (λ t. false ∷ t) (grown_equal a b (omega arith) (λ p h. g (suc p) h) (omega arith))
+
+-- a table that has grown has no more places that are not marked
+pub grown_fewer : (a b : List Bool) → length b ≡ length a → ((p : ℕ) → get_or a p false ≡ true → get_or b p false ≡ true) → unmarked b ≤ unmarked a
+grown_fewer a b l g = omega (arith, left_fewer a b l g, left_is a, left_is b)
 
 -- a table that has grown and has as many marks as before is the same
 pub grown_same : (a b : List Bool) → length b ≡ length a → ((p : ℕ) → get_or a p false ≡ true → get_or b p false ≡ true) → unmarked a ≤ unmarked b → b ≡ a

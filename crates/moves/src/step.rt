@@ -13,8 +13,9 @@ use running::kinds::{Step, StepRefusal, Worth};
 use sheet::rows::Transition;
 use sheet::sizes::SETTINGS;
 use view::changes::setting_change;
-use view::checks::Worked;
+use view::checks::check_step;
 use view::typed::row;
+use view::values::node_values;
 use view::view::View;
 
 // Makes a step that is possible, and refuses any other with the state as it was.
@@ -23,9 +24,8 @@ pub fn make_step<S: Store>(store: &mut S, step: Step) -> Result<(), StepRefusal>
     ensures reply { result ≡ step_reply (S.View.rows store.old) (S.View.state store.old) step }
     ensures state { S.View.state store.new ≡ step_state (S.View.rows store.old) (S.View.state store.old) step }
 {
-    let worked = Worked::new(&*store);
-    worked.check_step(step)?;
-    let worths = worked.worths;
+    let worths = node_values(store);
+    check_step(store, &worths, step)?;
     settle(store, &worths, step);
     move_parts(store, step);
     Ok(())

@@ -4,7 +4,6 @@ ghost use Rattle.std.specs.Prelude.{◌≡◌, ℕ, List};
 ghost use Rattle.reader.specs.Means.{rows_held};
 ghost use Rattle.open_rig.specs.Open.{rows_of, meaning_of, Fits, MadeOf};
 ghost use Rattle.std.proofs.Common.{rules};
-ghost use Rattle.std.proofs.Props.{props};
 
 use crate::record::{ComponentRecord, ElementRecord};
 use crate::tables::Tables;
@@ -54,8 +53,6 @@ impl Rig for OpenRig {
     ghost means = { meaning_of };
 
     ghost fits = { Fits };
-
-    ghost fits_is_a_fact = { λ x. Prim.hlevel props };
 
     ghost sound = { Prim.search rules };
 

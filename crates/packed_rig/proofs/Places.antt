@@ -68,6 +68,7 @@ module _ (s : Sheet) where
     -- a value of the range of a held element has a field with room for it
     pub record ValuePlace (v : ℤ) : Type 0 where
       pub inside : e < length (rows s elements)
+      pub within : in_range x v ≡ true
       pub room : above x.lowest v < 2 ^ get_or (widths s) (length (rows s components) + e) 0
       pub back : value_from (element_entry (get_or (rows s elements) e [])) (above x.lowest v) ≡ v
 
@@ -78,6 +79,7 @@ module _ (s : Sheet) where
         let t = held_standing r x v entry_is (not-true (is_port x) p.0) p.1 in
         record {
           inside = there;
+          within = p.1;
           room = subst (λ w. above x.lowest v < 2 ^ w) (sym (value_width_at s e there)) (subst (λ n. n < 2 ^ value_bits (element_entry r)) (sym t.1) t.0.room);
           back = ap (value_from (element_entry r)) t.1 ∙ t.0.back;
         }

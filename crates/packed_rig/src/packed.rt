@@ -7,7 +7,6 @@ ghost use Rattle.reader.specs.Means.{rows_held};
 ghost use Rattle.writer.specs.Written.{Written};
 ghost use Rattle.packed_rig.specs.Packed.{rows_of, meaning_of, Fits, AtStart};
 ghost use Rattle.std.proofs.Common.{rules};
-ghost use Rattle.std.proofs.Props.{props};
 
 use crate::tables::{PackedState, Tables};
 use crate::written::write_first;
@@ -65,8 +64,6 @@ impl Rig for PackedRig {
     ghost means = { meaning_of };
 
     ghost fits = { Fits };
-
-    ghost fits_is_a_fact = { λ x. Prim.hlevel props };
 
     ghost sound = { Prim.search rules };
 

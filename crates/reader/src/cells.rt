@@ -42,7 +42,7 @@ impl AcceptedSheet {
 
     // What a row holds, or nothing where there is none or it is blank.
     pub fn row<const N: usize, R: InLayout<N>>(&self, row: usize) -> Option<R>
-        ensures { result ≡ there R.FromRow.entry (rows (rows_held self.now) R.FromRow.SECTION) row }
+        ensures { result ≡ there R.FromRow.entry (rows (rows_held self.now) R.SectionRow.SECTION) row }
     {
         self.layout().row(row)
     }

@@ -19,8 +19,6 @@ pub trait Rig {
     // Its inner tables fit. Whoever makes a rig promises it, and every call keeps it.
     ghost fits: { Self → Type 0 };
 
-    ghost fits_is_a_fact: { (x : Self) → IsProp (fits x) };
-
     // The number of rows of a section, or nothing where there is no such section.
     fn count(&self, section: usize) -> Option<usize>
         requires { fits self.now }

@@ -62,7 +62,7 @@ fn require(kept: bool, reason: Reason) -> Result<(), Reason>
 
 // Whether row j clashes with x.
 fn clashes_with<const N: usize, R: InLayout<N> + Clashing>(sheet: &Layout, j: usize, x: R) -> bool
-    ensures { result ≡ is (there R.FromRow.entry (rows_in_section (rows_of sheet.now) R.FromRow.SECTION) j) (λ y. R.Clashing.clash y x) }
+    ensures { result ≡ is (there R.FromRow.entry (rows_in_section (rows_of sheet.now) R.SectionRow.SECTION) j) (λ y. R.Clashing.clash y x) }
 {
     let Some(y) = sheet.row::<N, R>(j) else {
         return false;
@@ -77,7 +77,7 @@ fn is_clear_of_earlier<const N: usize, R: InLayout<N> + Clashing>(
     i: usize,
     x: R,
 ) -> bool
-    ensures { result ≡ clear_of_earlier R.FromRow.entry R.Clashing.clash (rows_in_section (rows_of sheet.now) R.FromRow.SECTION) i x }
+    ensures { result ≡ clear_of_earlier R.FromRow.entry R.Clashing.clash (rows_in_section (rows_of sheet.now) R.SectionRow.SECTION) i x }
 {
     for j in 0..i {
         if clashes_with(sheet, j, x) {

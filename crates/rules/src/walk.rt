@@ -38,7 +38,7 @@ fn try_row<const N: usize, R: InLayout<N> + Tried>(
 
 // Tries the rows of a section, each with its index.
 fn try_section<const N: usize, R: InLayout<N> + Tried>(sheet: &Layout) -> Result<(), Refusal>
-    ensures { result ≡ section_verdict R.FromRow.SECTION R.FromRow.entry (R.Tried.checks (rows_of sheet.now)) (rows_in_section (rows_of sheet.now) R.FromRow.SECTION) }
+    ensures { result ≡ section_verdict R.SectionRow.SECTION R.FromRow.entry (R.Tried.checks (rows_of sheet.now)) (rows_in_section (rows_of sheet.now) R.SectionRow.SECTION) }
 {
     for (i, row) in R::rows_in(sheet).iter().enumerate() {
         if let Err(reason) = try_row::<N, R>(sheet, i, row) {

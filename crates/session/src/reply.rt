@@ -1,13 +1,14 @@
 // What a session answers to a call, as a line of text.
 
-ghost use Rattle.std.specs.Prelude.{◌≡◌, Some};
+ghost use Rattle.std.specs.Prelude.{◌≡◌, Some, IfOk, string_bytes};
 ghost use Rattle.running.specs.Steps.{step_number, step_names};
 ghost use Rattle.session.specs.Performed.{step_said, answer_said, count_said, value_said};
-ghost use Rattle.session.specs.Replies.{reply_line};
+ghost use Rattle.session.specs.Replies.{reply_line, refusal_told};
 
 use refused::Refused;
 use running::kinds::{NoQuestion, StepRefusal};
 use sheet::refusal::Refusal;
+use std::alloc::{AllocError, Global};
 use std::fmt;
 
 // The number of the refusal of a question.
@@ -23,6 +24,8 @@ pub enum Reply {
     Truth(bool),
     // There is no such question.
     NoQuestion(NoQuestion),
+    // A call is refused for whatever reason, with the number of the refusal and what it names.
+    RefusedBy(u8, usize),
     // A mode, a number of rows or a byte.
     Count(usize),
     // The value of an element.
@@ -33,6 +36,26 @@ pub enum Reply {
     NotACall,
     // The bytes that were to be opened are no sheet.
     NoSheet(Refusal),
+}
+
+impl Reply {
+    // The number of the refusal of a call, and what it names.
+    pub fn refusal(self) -> Option<(u8, usize)>
+        ensures { result ≡ refusal_told self }
+    {
+        match self {
+            Reply::Refused(fault) => Some(numbered(fault)),
+            Reply::NoQuestion(NoQuestion { question }) => Some((NO_QUESTION, question)),
+            Reply::RefusedBy(number, named) => Some((number, named)),
+            Reply::Made
+            | Reply::Truth(_)
+            | Reply::Count(_)
+            | Reply::Value(_)
+            | Reply::Nothing
+            | Reply::NotACall
+            | Reply::NoSheet(_) => None,
+        }
+    }
 }
 
 impl From<Result<(), StepRefusal>> for Reply {
@@ -88,6 +111,7 @@ impl fmt::Display for Reply {
             Reply::NoQuestion(NoQuestion { question }) => {
                 write!(f, "refused {NO_QUESTION} {question}")
             }
+            Reply::RefusedBy(number, named) => write!(f, "refused {number} {named}"),
             Reply::Count(n) => write!(f, "{n}"),
             Reply::Value(n) => write!(f, "{n}"),
             Reply::Nothing => write!(f, "nothing"),
@@ -98,6 +122,13 @@ impl fmt::Display for Reply {
             }
         }
     }
+}
+
+// The line for the reply, as a text of its own.
+pub fn reply_text(heap: Global, reply: Reply) -> Result<String, AllocError>
+    ensures { IfOk result (λ t. string_bytes t ≡ reply_line reply) }
+{
+    format!(in heap; "{reply}")
 }
 
 // The number of the refusal of a step, and the transition that it names.

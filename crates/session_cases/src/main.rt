@@ -70,3 +70,36 @@ fn main(rt: HostRuntime) -> anyhow::Result<()> {
     println!(rt; "{tried} sessions, {wrong} wrong")?;
     Ok(())
 }
+
+#[cfg(test)]
+mod tests {
+    use running::kinds::{NoQuestion, StepRefusal};
+    use session::reply::{Reply, reply_text};
+    use sheet::refusal::{Reason, Refusal};
+    use std::test::Fail;
+
+    #[test]
+    fn replies_have_their_lines(rt: HostRuntime) -> Result<(), Fail> {
+        let no_sheet = Refusal {
+            reason: Reason::LeftOver,
+            section: 9,
+            row: 0,
+        };
+        let cases = [
+            (Reply::Made, "made"),
+            (Reply::Refused(StepRefusal::NotConnected(1)), "refused 11 1"),
+            (
+                Reply::NoQuestion(NoQuestion { question: 5 }),
+                "refused 13 5",
+            ),
+            (Reply::RefusedBy(14, 3), "refused 14 3"),
+            (Reply::Truth(true), "true"),
+            (Reply::Value(-7), "-7"),
+            (Reply::NoSheet(no_sheet), "refused 2 9 0"),
+        ];
+        for (reply, line) in cases {
+            assert_eq!(rt; reply_text(rt.alloc(), reply)?.as_str(), line);
+        }
+        Ok(())
+    }
+}

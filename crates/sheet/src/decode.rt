@@ -5,7 +5,7 @@ ghost use Rattle.sheet.specs.declared.rows.Malformed.{Malformed};
 ghost use Rattle.sheet.specs.Lookup.{there};
 ghost use Rattle.sheet.specs.Sections.{shape, shapes};
 ghost use Rattle.sheet.specs.Typed.{number, mode_set, zeros, listing, component_entry, element_entry, event_entry, node_entry, flow_entry, connection_entry, transition_entry, setting_entry, question_entry};
-ghost use Rattle.std.proofs.Common.{rules};
+ghost use Rattle.std.proofs.Common.{lit<, refl};
 
 use crate::rows::{
     Component, Connection, Direction, Element, Event, Flow, Kind, Malformed, ModeSet, Node,
@@ -42,6 +42,16 @@ fn lists_modes(set: ModeSet) -> bool
 
 // A typed value of a row of N bytes.
 pub trait FromRow<const N: usize>: Copy {
+    // What the bytes of a row say.
+    ghost entry: { List ℕ → Result (Option Self) Malformed };
+
+    // What a row holds; nothing where it is blank.
+    fn from_row(row: &[u8; N]) -> Result<Option<Self>, Malformed>
+        ensures { result ≡ entry row.now };
+}
+
+// A typed value of a row that stands in a section of the sheet's table.
+pub trait SectionRow<const N: usize>: FromRow<N> {
     // The section that its rows stand in: clauses read the ghost member, code the constant.
     const SECTION: usize;
 
@@ -54,12 +64,6 @@ pub trait FromRow<const N: usize>: Copy {
     ghost LEAST: { ℕ };
 
     ghost MOST: { ℕ };
-    // What the bytes of a row say.
-    ghost entry: { List ℕ → Result (Option Self) Malformed };
-
-    // What a row holds; nothing where it is blank.
-    fn from_row(row: &[u8; N]) -> Result<Option<Self>, Malformed>
-        ensures { result ≡ entry row.now };
 
     ghost shaped: { slice_index_or shapes SECTION (shape 0 0 0) ≡ shape N LEAST MOST };
 
@@ -74,6 +78,19 @@ pub fn row_at<const N: usize, R: FromRow<N>>(rows: &[[u8; N]], i: usize) -> Opti
 }
 
 impl FromRow<COMPONENT_BYTES> for Component {
+    ghost entry = { component_entry };
+
+    fn from_row(row: &[u8; COMPONENT_BYTES]) -> Result<Option<Component>, Malformed> {
+        let [modes, start] = *row;
+        if 1 <= modes && modes <= 15 && start <= modes {
+            Ok(Some(Component { modes, start }))
+        } else {
+            Err(Malformed)
+        }
+    }
+}
+
+impl SectionRow<COMPONENT_BYTES> for Component {
     const SECTION: usize = COMPONENTS;
 
     const LEAST: u8 = 1;
@@ -86,40 +103,13 @@ impl FromRow<COMPONENT_BYTES> for Component {
 
     ghost MOST = { 16 };
 
-    ghost entry = { component_entry };
+    ghost shaped = { refl };
 
-    ghost shaped = { Prim.search rules };
-
-    ghost some = { Prim.search rules };
-
-    fn from_row(row: &[u8; COMPONENT_BYTES]) -> Result<Option<Component>, Malformed> {
-        let [modes, start] = *row;
-        if 1 <= modes && modes <= 15 && start <= modes {
-            Ok(Some(Component { modes, start }))
-        } else {
-            Err(Malformed)
-        }
-    }
+    ghost some = { lit< tt };
 }
 
 impl FromRow<ELEMENT_BYTES> for Element {
-    const SECTION: usize = ELEMENTS;
-
-    const LEAST: u8 = 0;
-
-    const MOST: u8 = MOST_ELEMENTS;
-
-    ghost SECTION = { 1 };
-
-    ghost LEAST = { 0 };
-
-    ghost MOST = { 64 };
-
     ghost entry = { element_entry };
-
-    ghost shaped = { Prim.search rules };
-
-    ghost some = { Prim.search rules };
 
     fn from_row(row: &[u8; ELEMENT_BYTES]) -> Result<Option<Element>, Malformed> {
         let [kind, component, l0, l1, h0, h1, r0, r1] = *row;
@@ -144,24 +134,26 @@ impl FromRow<ELEMENT_BYTES> for Element {
     }
 }
 
-impl FromRow<EVENT_BYTES> for Event {
-    const SECTION: usize = EVENTS;
+impl SectionRow<ELEMENT_BYTES> for Element {
+    const SECTION: usize = ELEMENTS;
 
     const LEAST: u8 = 0;
 
-    const MOST: u8 = MOST_EVENTS;
+    const MOST: u8 = MOST_ELEMENTS;
 
-    ghost SECTION = { 2 };
+    ghost SECTION = { 1 };
 
     ghost LEAST = { 0 };
 
     ghost MOST = { 64 };
 
+    ghost shaped = { refl };
+
+    ghost some = { lit< tt };
+}
+
+impl FromRow<EVENT_BYTES> for Event {
     ghost entry = { event_entry };
-
-    ghost shaped = { Prim.search rules };
-
-    ghost some = { Prim.search rules };
 
     fn from_row(row: &[u8; EVENT_BYTES]) -> Result<Option<Event>, Malformed> {
         if let [0, 0] = *row {
@@ -176,24 +168,26 @@ impl FromRow<EVENT_BYTES> for Event {
     }
 }
 
-impl FromRow<NODE_BYTES> for Node {
-    const SECTION: usize = NODES;
+impl SectionRow<EVENT_BYTES> for Event {
+    const SECTION: usize = EVENTS;
 
     const LEAST: u8 = 0;
 
-    const MOST: u8 = MOST_NODES;
+    const MOST: u8 = MOST_EVENTS;
 
-    ghost SECTION = { 3 };
+    ghost SECTION = { 2 };
 
     ghost LEAST = { 0 };
 
-    ghost MOST = { 128 };
+    ghost MOST = { 64 };
 
+    ghost shaped = { refl };
+
+    ghost some = { lit< tt };
+}
+
+impl FromRow<NODE_BYTES> for Node {
     ghost entry = { node_entry };
-
-    ghost shaped = { Prim.search rules };
-
-    ghost some = { Prim.search rules };
 
     fn from_row(row: &[u8; NODE_BYTES]) -> Result<Option<Node>, Malformed> {
         let [kind, a, b, c] = *row;
@@ -216,24 +210,26 @@ impl FromRow<NODE_BYTES> for Node {
     }
 }
 
-impl FromRow<FLOW_BYTES> for Flow {
-    const SECTION: usize = FLOWS;
+impl SectionRow<NODE_BYTES> for Node {
+    const SECTION: usize = NODES;
 
     const LEAST: u8 = 0;
 
-    const MOST: u8 = MOST_FLOWS;
+    const MOST: u8 = MOST_NODES;
 
-    ghost SECTION = { 4 };
+    ghost SECTION = { 3 };
 
     ghost LEAST = { 0 };
 
-    ghost MOST = { 64 };
+    ghost MOST = { 128 };
 
+    ghost shaped = { refl };
+
+    ghost some = { lit< tt };
+}
+
+impl FromRow<FLOW_BYTES> for Flow {
     ghost entry = { flow_entry };
-
-    ghost shaped = { Prim.search rules };
-
-    ghost some = { Prim.search rules };
 
     fn from_row(row: &[u8; FLOW_BYTES]) -> Result<Option<Flow>, Malformed> {
         if let [0, 0, 0, 0] = *row {
@@ -249,24 +245,26 @@ impl FromRow<FLOW_BYTES> for Flow {
     }
 }
 
-impl FromRow<CONNECTION_BYTES> for Connection {
-    const SECTION: usize = CONNECTIONS;
+impl SectionRow<FLOW_BYTES> for Flow {
+    const SECTION: usize = FLOWS;
 
     const LEAST: u8 = 0;
 
-    const MOST: u8 = MOST_CONNECTIONS;
+    const MOST: u8 = MOST_FLOWS;
 
-    ghost SECTION = { 5 };
+    ghost SECTION = { 4 };
 
     ghost LEAST = { 0 };
 
     ghost MOST = { 64 };
 
+    ghost shaped = { refl };
+
+    ghost some = { lit< tt };
+}
+
+impl FromRow<CONNECTION_BYTES> for Connection {
     ghost entry = { connection_entry };
-
-    ghost shaped = { Prim.search rules };
-
-    ghost some = { Prim.search rules };
 
     fn from_row(row: &[u8; CONNECTION_BYTES]) -> Result<Option<Connection>, Malformed> {
         if let [0, 0, 0, 0, 0] = *row {
@@ -287,24 +285,26 @@ impl FromRow<CONNECTION_BYTES> for Connection {
     }
 }
 
-impl FromRow<TRANSITION_BYTES> for Transition {
-    const SECTION: usize = TRANSITIONS;
+impl SectionRow<CONNECTION_BYTES> for Connection {
+    const SECTION: usize = CONNECTIONS;
 
     const LEAST: u8 = 0;
 
-    const MOST: u8 = MOST_TRANSITIONS;
+    const MOST: u8 = MOST_CONNECTIONS;
 
-    ghost SECTION = { 6 };
+    ghost SECTION = { 5 };
 
     ghost LEAST = { 0 };
 
     ghost MOST = { 64 };
 
+    ghost shaped = { refl };
+
+    ghost some = { lit< tt };
+}
+
+impl FromRow<TRANSITION_BYTES> for Transition {
     ghost entry = { transition_entry };
-
-    ghost shaped = { Prim.search rules };
-
-    ghost some = { Prim.search rules };
 
     fn from_row(row: &[u8; TRANSITION_BYTES]) -> Result<Option<Transition>, Malformed> {
         if let [0, 0, 0, 0, 0] = *row {
@@ -325,24 +325,26 @@ impl FromRow<TRANSITION_BYTES> for Transition {
     }
 }
 
-impl FromRow<SETTING_BYTES> for Setting {
-    const SECTION: usize = SETTINGS;
+impl SectionRow<TRANSITION_BYTES> for Transition {
+    const SECTION: usize = TRANSITIONS;
 
     const LEAST: u8 = 0;
 
-    const MOST: u8 = MOST_SETTINGS;
+    const MOST: u8 = MOST_TRANSITIONS;
 
-    ghost SECTION = { 7 };
+    ghost SECTION = { 6 };
 
     ghost LEAST = { 0 };
 
-    ghost MOST = { 128 };
+    ghost MOST = { 64 };
 
+    ghost shaped = { refl };
+
+    ghost some = { lit< tt };
+}
+
+impl FromRow<SETTING_BYTES> for Setting {
     ghost entry = { setting_entry };
-
-    ghost shaped = { Prim.search rules };
-
-    ghost some = { Prim.search rules };
 
     fn from_row(row: &[u8; SETTING_BYTES]) -> Result<Option<Setting>, Malformed> {
         match *row {
@@ -356,7 +358,36 @@ impl FromRow<SETTING_BYTES> for Setting {
     }
 }
 
+impl SectionRow<SETTING_BYTES> for Setting {
+    const SECTION: usize = SETTINGS;
+
+    const LEAST: u8 = 0;
+
+    const MOST: u8 = MOST_SETTINGS;
+
+    ghost SECTION = { 7 };
+
+    ghost LEAST = { 0 };
+
+    ghost MOST = { 128 };
+
+    ghost shaped = { refl };
+
+    ghost some = { lit< tt };
+}
+
 impl FromRow<QUESTION_BYTES> for Question {
+    ghost entry = { question_entry };
+
+    fn from_row(row: &[u8; QUESTION_BYTES]) -> Result<Option<Question>, Malformed> {
+        match *row {
+            [255] => Ok(None),
+            [node] => Ok(Some(Question { node })),
+        }
+    }
+}
+
+impl SectionRow<QUESTION_BYTES> for Question {
     const SECTION: usize = QUESTIONS;
 
     const LEAST: u8 = 0;
@@ -369,16 +400,7 @@ impl FromRow<QUESTION_BYTES> for Question {
 
     ghost MOST = { 16 };
 
-    ghost entry = { question_entry };
+    ghost shaped = { refl };
 
-    ghost shaped = { Prim.search rules };
-
-    ghost some = { Prim.search rules };
-
-    fn from_row(row: &[u8; QUESTION_BYTES]) -> Result<Option<Question>, Malformed> {
-        match *row {
-            [255] => Ok(None),
-            [node] => Ok(Some(Question { node })),
-        }
-    }
+    ghost some = { lit< tt };
 }

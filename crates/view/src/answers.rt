@@ -62,5 +62,12 @@ pub fn rest_value<V: View>(view: &V, e: usize) -> Option<i32>
 pub fn start_value<V: View>(view: &V, e: usize) -> i32
     ensures { result ≡ held_of (start_state (V.View.rows view.now)) e }
 {
-    rest_value(view, e).unwrap_or(0)
+    // Not by `rest_value` in one line: this function is to show which value of the element it reads, so that an edit can turn it.
+    let Some(x) = row::<_, Element, _>(view, e) else {
+        return 0;
+    };
+    match x.kind {
+        Kind::Held => x.rest,
+        Kind::Port => 0,
+    }
 }

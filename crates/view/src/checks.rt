@@ -14,6 +14,14 @@ use running::kinds::{Step, StepRefusal, Worth};
 use sheet::rows::{Connection, Direction, Event, Transition};
 use sheet::sizes::CONNECTIONS;
 
+// The reply to a step: made, or the first check that fails. `worths` has what each node gives, and is read where it lies.
+pub fn check_step<V: View>(view: &V, worths: &[Worth], step: Step) -> Result<(), StepRefusal>
+    requires table { (n : ℕ) → slice_index_or worths.now n nothing ≡ node_value (V.View.rows view.now) (V.View.state view.now) n }
+    ensures { result ≡ step_reply (V.View.rows view.now) (V.View.state view.now) step }
+{
+    Checks { view, worths }.check_step(step)
+}
+
 // A view, with what each node gives in its state.
 #[derive(Drop)]
 pub struct Worked<'a, V: View> {
@@ -35,6 +43,22 @@ impl<'a, V: View> Worked<'a, V> {
 
     // The reply to a step: made, or the first check that fails.
     pub fn check_step(&self, step: Step) -> Result<(), StepRefusal>
+        ensures { result ≡ step_reply (V.View.rows self.now.view.now) (V.View.state self.now.view.now) step }
+    {
+        check_step(self.view, &self.worths, step)
+    }
+}
+
+// A view, with a table of what each node gives in its state, that checks steps.
+#[derive(Drop)]
+struct Checks<'a, V: View> {
+    view: &'a V,
+    worths: &'a [Worth],
+    ghost worked: { (n : ℕ) → slice_index_or worths.now n nothing ≡ node_value (V.View.rows view.now) (V.View.state view.now) n },
+}
+
+impl<'a, V: View> Checks<'a, V> {
+    fn check_step(&self, step: Step) -> Result<(), StepRefusal>
         ensures { result ≡ step_reply (V.View.rows self.now.view.now) (V.View.state self.now.view.now) step }
     {
         match step {
@@ -111,7 +135,7 @@ impl<'a, V: View> Worked<'a, V> {
     fn guard_is_true(&self, x: Transition) -> bool
         ensures { result ≡ has_true_guard (V.View.rows self.now.view.now) (V.View.state self.now.view.now) x }
     {
-        truth_at(&self.worths, x.guard)
+        truth_at(self.worths, x.guard)
     }
 
     // Whether there is an event, and it goes that way.

@@ -1,7 +1,6 @@
-use Rattle.std.proofs.Common.{◌≡◌, ℕ, Ok, Err, get_or, sym, refl, ap, ◌∙◌}
+use Rattle.std.proofs.Common.{◌≡◌, Err, sym, refl, ap, ◌∙◌}
 use Rattle.std.proofs.lemmas.Result.{err_from_is_err_and}
-use Rattle.running.specs.Steps.{parts, moved, step_reply}
-use Rattle.running.specs.Values.{nothing, node_value}
+use Rattle.running.specs.Steps.{parts, moved}
 use Rattle.running.proofs.Stepped.{refused_stays, made_goes}
 use Rattle.sheet.specs.Sections.{rows, settings}
 use Rattle.moves.specs.Places.{with_modes}
@@ -13,11 +12,10 @@ returns-in_err-check_step g c =
     let s = g.S.View.rows c.args.store.now in
     let w = g.S.View.state c.args.store.now in
     let p = err_from_is_err_and c.from_residual.result c.from_residual.ensures.1 in
-    let refused = rw c.new-worked.ensures at c.in_err-check_step.ensures in
     record {
       rows = refl;
-      reply = p.1 ∙ ap Err p.2 ∙ refused;
-      state = sym (refused_stays s w c.args.step _ refused);
+      reply = p.1 ∙ ap Err p.2 ∙ c.in_err-check_step.ensures;
+      state = sym (refused_stays s w c.args.step _ c.in_err-check_step.ensures);
     }
 
 pub returns : goal.returns
@@ -25,11 +23,9 @@ returns g c =
     let s = g.S.View.rows c.args.store.now in
     let w = g.S.View.state c.args.store.now in
     let x = c.args.step in
-    let worked = c.new-worked.result in
-    let reply : Ok tt ≡ step_reply s w x = rw c.new-worked.ensures at c.in_ok-check_step.ensures in
-    let table : (n : ℕ) → get_or worked.worths n nothing ≡ node_value s w n = λ n. rw c.new-worked.ensures at (worked.worked n) in
+    let reply = c.in_ok-check_step.ensures in
     let settled_state = c.settle.ensures.state in
-    let values = settled_is s w worked.worths (parts x) table (rows s settings) w.held in
+    let values = settled_is s w c.node_values-worths.result (parts x) c.node_values-worths.ensures (rows s settings) w.held in
     let modes : g.S.View.state c.move_parts.new.store ≡ _ = c.move_parts.ensures.state ∙ (λ i. with_modes (settled_state i) (moved (c.settle.ensures.rows i) (parts x) (settled_state i).modes)) in
     record {
       rows = c.move_parts.ensures.rows ∙ c.settle.ensures.rows;

@@ -32,12 +32,12 @@ module _ {X : Type 0} (s : ℕ) (entry : Row → Entry X) (checks : ℕ → X �
 
 pub returns-in-Err : goal.returns-in-Err
 returns-in-Err g c =
-    rw c.SECTION.ensures (stops_at g.R.FromRow.SECTION g.R.FromRow.entry (g.R.Tried.checks (rows_of c.args.sheet.now)) (rows (rows_of c.args.sheet.now) g.R.FromRow.SECTION) c.loop-i.i c.row-item.result
+    rw c.SECTION.ensures (stops_at g.R.SectionRow.SECTION g.R.FromRow.entry (g.R.Tried.checks (rows_of c.args.sheet.now)) (rows (rows_of c.args.sheet.now) g.R.SectionRow.SECTION) c.loop-i.i c.row-item.result
     (rw c.rows_in-row-items.ensures at c.loop-i-test.true) (rw c.rows_in-row-items.ensures at c.row-item.is) c.loop-i.invariant c.in-Err.reason (sym c.try_row.ensures ∙ c.in-Err.is))
 
 pub loop-i-preserved : goal.loop-i-preserved
 loop-i-preserved g c =
-    passes_on g.R.FromRow.SECTION g.R.FromRow.entry (g.R.Tried.checks (rows_of c.args.sheet.now)) (rows (rows_of c.args.sheet.now) g.R.FromRow.SECTION) c.loop-i.i c.row-item.result
+    passes_on g.R.SectionRow.SECTION g.R.FromRow.entry (g.R.Tried.checks (rows_of c.args.sheet.now)) (rows (rows_of c.args.sheet.now) g.R.SectionRow.SECTION) c.loop-i.i c.row-item.result
     (rw c.rows_in-row-items.ensures at c.loop-i-test.true) (rw c.rows_in-row-items.ensures at c.row-item.is) c.loop-i.invariant (sym c.try_row.ensures ∙ c.in_default.is)
 
 pub returns : goal.returns

@@ -5,7 +5,7 @@ use Rattle.sheet.specs.Lookup.{connection_at, is}
 use Rattle.sheet.specs.Sections.{rows, connections}
 use Rattle.sheet.proofs.Shapes.{count_is}
 use Rattle.view.proofs.Carried.{carried_by_cases}
-use Rattle.view.proofs.checks.Worked.any_connection_carries.Goals as goal
+use Rattle.view.proofs.checks.Checks.any_connection_carries.Goals as goal
 
 pub returns : goal.returns
 returns g c =

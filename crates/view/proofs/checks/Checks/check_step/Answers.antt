@@ -3,7 +3,7 @@ use Rattle.running.specs.declared.kinds.StepRefusal.{StepRefusal}
 use Rattle.running.specs.declared.kinds.StepRefusal.TheVariants.{NoTransition}
 use Rattle.sheet.specs.declared.rows.Transition.{Transition}
 use Rattle.sheet.specs.Lookup.{transition_at}
-use Rattle.view.proofs.checks.Worked.check_step.Goals as goal
+use Rattle.view.proofs.checks.Checks.check_step.Goals as goal
 
 -- a transition that was found is there
 found : (o : Option Transition) (f : StepRefusal) (x : Transition) → Ok x ≡ ok_or o f → o ≡ Some x
