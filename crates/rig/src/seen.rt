@@ -17,7 +17,7 @@ pub struct Seen<'a, R: Rig> {
 
 impl<'a, R: Rig> Seen<'a, R> {
     // The rig, with the proof that its calls ask for.
-    fn fitting_rig(&self) -> &R
+    pub fn fitting_rig(&self) -> &R
         ensures { (result.now ≡ self.now.rig.now) × R.Rig.fits result.now }
     {
         self.rig

@@ -73,6 +73,9 @@ fn main(rt: HostRuntime) -> anyhow::Result<()> {
 
 #[cfg(test)]
 mod tests {
+    use opening::open::open_by_line;
+    use rig::rig::Rig;
+    use rig::seen::Seen;
     use running::kinds::{NoQuestion, StepRefusal};
     use session::reply::{Reply, reply_text};
     use sheet::refusal::{Reason, Refusal};
@@ -100,6 +103,24 @@ mod tests {
         for (reply, line) in cases {
             assert_eq!(rt; reply_text(rt.alloc(), reply)?.as_str(), line);
         }
+        Ok(())
+    }
+
+    // One component with three modes, in mode 2, and a held element of value 5.
+    #[test]
+    fn a_seen_rig_makes_the_calls_of_a_rig(rt: HostRuntime) -> Result<(), Fail> {
+        let line = b"open 01030201010000000900050000000000000000";
+        let opened = open_by_line(rt.alloc(), line)?;
+        assert!(rt; opened.is_ok(), "the line opens no sheet");
+        let Ok(rig) = opened else {
+            return Ok(());
+        };
+        let seen = Seen { rig: &rig };
+        assert_eq!(rt; seen.fitting_rig().count(1), Some(1));
+        assert_eq!(rt; seen.fitting_rig().byte(0, 0, 1), Some(2));
+        assert_eq!(rt; seen.fitting_rig().mode(0), Some(2));
+        assert_eq!(rt; seen.fitting_rig().mode(1), None);
+        assert_eq!(rt; seen.fitting_rig().value(0), Some(5));
         Ok(())
     }
 }

@@ -1,6 +1,6 @@
 // Rows as their bytes, read as typed values.
 
-ghost use Rattle.std.specs.Prelude.{◌≡◌, ℕ, ◌+◌, ◌*◌, ◌%◌, ◌<◌, List, Option, Result, slice_index_or};
+ghost use Rattle.std.specs.Prelude.{◌≡◌, ℕ, ◌+◌, ◌*◌, ◌%◌, ◌<◌, ◌&&◌, nat_le, List, Option, Result, slice_index_or};
 ghost use Rattle.sheet.specs.declared.rows.Malformed.{Malformed};
 ghost use Rattle.sheet.specs.Lookup.{there};
 ghost use Rattle.sheet.specs.Sections.{shape, shapes};
@@ -65,6 +65,14 @@ pub trait SectionRow<const N: usize>: FromRow<N> {
 
     ghost MOST: { ℕ };
 
+    // Whether the section may have that many rows.
+    fn allows(count: u8) -> bool
+        ensures { result ≡ (nat_le LEAST count && nat_le count MOST) }
+    {
+        Self::LEAST <= count && count <= Self::MOST
+    }
+
+    // Laws, since they stand below a function: whoever implements the trait may show them by whatever is known of a type.
     ghost shaped: { slice_index_or shapes SECTION (shape 0 0 0) ≡ shape N LEAST MOST };
 
     ghost some: { 0 < N };

@@ -46,3 +46,26 @@ fn main(rt: HostRuntime) -> io::Result<()> {
     )?;
     println!(rt; "{tally}")
 }
+
+#[cfg(test)]
+mod tests {
+    use sheet::decode::SectionRow;
+    use sheet::rows::{Component, Flow};
+    use std::test::Fail;
+
+    #[test]
+    fn sections_have_the_rows_of_the_format(rt: HostRuntime) -> Result<(), Fail> {
+        for (count, component, flow) in [
+            (0, false, true),
+            (1, true, true),
+            (16, true, true),
+            (17, false, true),
+            (64, false, true),
+            (65, false, false),
+        ] {
+            assert_eq!(rt; Component::allows(count), component, "{count} components");
+            assert_eq!(rt; Flow::allows(count), flow, "{count} flows");
+        }
+        Ok(())
+    }
+}

@@ -24,7 +24,7 @@ returns-then-count-LEAST g c =
 pub returns-then-whole_rows-count : goal.returns-then-whole_rows-count
 returns-then-whole_rows-count g c =
     record {
-      answer = rw c.SECTION-section.ensures (short g.R.SectionRow.SECTION (shape g.row.N g.R.SectionRow.LEAST g.R.SectionRow.MOST) c.args.bytes.now c.in-Some.count.now c.in-Some.rest.now c.in-Some.ensures.cases.0 (rw c.LEAST.ensures at c.if-count-LEAST.false) (rw c.MOST.ensures at c.if-count-MOST.false) g.R.SectionRow.some c.if-whole_rows-count.true);
+      answer = rw c.SECTION-section.ensures (short g.R.SectionRow.SECTION (shape g.row.N g.R.SectionRow.LEAST g.R.SectionRow.MOST) c.args.bytes.now c.in-Some.count.now c.in-Some.rest.now c.in-Some.ensures.cases.0 (rw c.LEAST.ensures at c.if-count-LEAST.false) (rw c.MOST.ensures at c.if-count-MOST.false) g.met.R.SectionRow.some c.if-whole_rows-count.true);
       typed = bytes_from c.args.bytes.now c.type_inv.bytes;
     }
 
@@ -36,11 +36,11 @@ returns g c =
     let n = c.in-Some.count.now in
     let rest = c.in-Some.rest.now in
     let room : n * g.row.N ≤ length rest = omega (arith, mul-le-mul_right g.row.N c.if-whole_rows-count.false, div-mul-le_self (length rest) g.row.N) in
-    let count : length c.split_at.result.0.now / g.row.N ≡ n = ap (λ k. k / g.row.N) c.split_at.ensures.front_len ∙ mul-div_cancel n g.R.SectionRow.some in
+    let count : length c.split_at.result.0.now / g.row.N ≡ n = ap (λ k. k / g.row.N) c.split_at.ensures.front_len ∙ mul-div_cancel n g.met.R.SectionRow.some in
     let rows : c.as_chunks.result.0.now ≡ first_chunks g.row.N n rest =
     c.as_chunks.ensures.front ∙ (λ i. first_chunks g.row.N (count i) (c.split_at.ensures.front i)) ∙ chunked_front g.row.N n rest in
     record {
-      answer = whole g.R.SectionRow.SECTION (shape g.row.N g.R.SectionRow.LEAST g.R.SectionRow.MOST) c.args.bytes.now n rest c.in-Some.ensures.cases.0 (rw c.LEAST.ensures at c.if-count-LEAST.false) (rw c.MOST.ensures at c.if-count-MOST.false) g.R.SectionRow.some room
+      answer = whole g.R.SectionRow.SECTION (shape g.row.N g.R.SectionRow.LEAST g.R.SectionRow.MOST) c.args.bytes.now n rest c.in-Some.ensures.cases.0 (rw c.LEAST.ensures at c.if-count-LEAST.false) (rw c.MOST.ensures at c.if-count-MOST.false) g.met.R.SectionRow.some room
           ∙ (λ i. Ok (sym rows i, sym c.split_at.ensures.back i));
       typed = bytes_from c.args.bytes.now c.type_inv.bytes;
     }

@@ -9,7 +9,7 @@ loop-place-init g c = record { long = length-replicate g.row.N 0; inside = omega
 
 pub returns-in_err-byte : goal.returns-in_err-byte
 returns-in_err-byte g c =
-    c.from_residual.ensures ∙ row_missing (g.V.View.rows c.args.view.now) g.R.SectionRow.SECTION c.args.row g.row.N (g.met.V.View.accepts c.args.view.now) (ap (λ (h : Shape). h.width) g.R.SectionRow.shaped) c.loop-place.place c.loop-place-test.true (rw c.SECTION.ensures at c.in_err-byte.ensures)
+    c.from_residual.ensures ∙ row_missing (g.V.View.rows c.args.view.now) g.R.SectionRow.SECTION c.args.row g.row.N (g.met.V.View.accepts c.args.view.now) (ap (λ (h : Shape). h.width) g.met.R.SectionRow.shaped) c.loop-place.place c.loop-place-test.true (rw c.SECTION.ensures at c.in_err-byte.ensures)
 
 pub loop-place-preserved : goal.loop-place-preserved
 loop-place-preserved g c =
@@ -17,4 +17,4 @@ loop-place-preserved g c =
 
 pub returns : goal.returns
 returns g c =
-    row_whole (g.V.View.rows c.args.view.now) g.R.SectionRow.SECTION c.args.row g.row.N (g.met.V.View.accepts c.args.view.now) (ap (λ (h : Shape). h.width) g.R.SectionRow.shaped) c.loop-place.byte-items c.loop-place.place g.R.SectionRow.some c.loop-place-test.false c.loop-place.invariant
+    row_whole (g.V.View.rows c.args.view.now) g.R.SectionRow.SECTION c.args.row g.row.N (g.met.V.View.accepts c.args.view.now) (ap (λ (h : Shape). h.width) g.met.R.SectionRow.shaped) c.loop-place.byte-items c.loop-place.place g.met.R.SectionRow.some c.loop-place-test.false c.loop-place.invariant
