@@ -18,7 +18,8 @@ pub struct Seen<'a, R: Rig> {
 impl<'a, R: Rig> Seen<'a, R> {
     // The rig, with the proof that its calls ask for.
     pub fn fitting_rig(&self) -> &R
-        ensures { (result.now ≡ self.now.rig.now) × R.Rig.fits result.now }
+        ensures rig { result.now ≡ self.now.rig.now }
+        ensures fits { R.Rig.fits result.now }
     {
         self.rig
     }
